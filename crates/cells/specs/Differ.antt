@@ -1,0 +1,72 @@
+-- The first cell, in the order Pc, registers by number, bytes by address, whose recorded value is not the one found.
+use Rattle.std.specs.Prelude.{◌≡◌, ℕ, ◌<◌, ◌^◌, zero, suc, Bool, true, false, not, cond, Option, Some, None, nat_eq, unwrap_or, option_map}
+use Rattle.cells.specs.declared.Cell.{Cell}
+use Rattle.cells.specs.declared.Cell.TheVariants.{Pc, Reg, Byte}
+use Rattle.cells.specs.declared.Differ.{Differ}
+use Rattle.cells.specs.Cells.{IsCell}
+
+abbrev pub keep_or : Option ℕ → Bool → ℕ → Option ℕ
+keep_or (Some k) b n = Some k
+keep_or None true n = Some n
+keep_or None false n = None
+
+-- the least number below n that passes
+unfoldable pub first_where : (ℕ → Bool) → ℕ → Option ℕ
+first_where p zero = None
+first_where p (suc n) = keep_or (first_where p n) (p n) n
+
+-- a value is recorded, and another one is found
+abbrev pub is_other : Option ℕ → ℕ → Bool
+is_other None v = false
+is_other (Some p) v = not (nat_eq p v)
+
+abbrev pub differs : (Cell → Option ℕ) → (Cell → ℕ) → Cell → Bool
+differs recorded found x = is_other (recorded x) (found x)
+
+abbrev pub or_else : Option Cell → Option Cell → Option Cell
+or_else None o = o
+or_else (Some x) o = Some x
+
+abbrev pub as_cell : (ℕ → Cell) → Option ℕ → Option Cell
+as_cell make None = None
+as_cell make (Some k) = Some (make k)
+
+abbrev pub first_reg : (Cell → Option ℕ) → (Cell → ℕ) → Option ℕ
+first_reg recorded found = first_where (λ n. differs recorded found (Reg n)) 32
+
+abbrev pub first_byte : (Cell → Option ℕ) → (Cell → ℕ) → Option ℕ
+first_byte recorded found = first_where (λ a. differs recorded found (Byte a)) (2 ^ 32)
+
+abbrev pub first_cell : (Cell → Option ℕ) → (Cell → ℕ) → Option Cell
+first_cell recorded found =
+    or_else (cond (differs recorded found Pc) (Some Pc) None) (or_else (as_cell Reg (first_reg recorded found)) (as_cell Byte (first_byte recorded found)))
+
+abbrev pub told : (Cell → Option ℕ) → (Cell → ℕ) → Cell → Differ
+told recorded found x = record { cell = x; predicted = unwrap_or (recorded x) 0; found = found x }
+
+unfoldable pub differ : (Cell → Option ℕ) → (Cell → ℕ) → Option Differ
+differ recorded found = option_map (told recorded found) (first_cell recorded found)
+
+-- The order, in words of its own: x stands before y
+abbrev pub IsBefore : Cell → Cell → Type 0
+IsBefore Pc Pc = ⊥
+IsBefore Pc (Reg n) = Unit {0}
+IsBefore Pc (Byte b) = Unit {0}
+IsBefore (Reg m) Pc = ⊥
+IsBefore (Reg m) (Reg n) = m < n
+IsBefore (Reg m) (Byte b) = Unit {0}
+IsBefore (Byte a) Pc = ⊥
+IsBefore (Byte a) (Reg n) = ⊥
+IsBefore (Byte a) (Byte b) = a < b
+
+-- what is told is a recorded cell with its two values, which are not the same, and no cell before it differs
+pub record IsFirst (recorded : Cell → Option ℕ) (found : Cell → ℕ) (d : Differ) : Type 0 where
+  pub is_cell : IsCell d.cell
+  pub was_recorded : recorded d.cell ≡ Some d.predicted
+  pub is_found : found d.cell ≡ d.found
+  pub other : d.predicted ≡ d.found → ⊥
+  pub first : (x : Cell) → IsCell x → IsBefore x d.cell → differs recorded found x ≡ false
+
+abbrev pub IsFirstDiffer : (Cell → Option ℕ) → (Cell → ℕ) → Option Differ → Type 0
+IsFirstDiffer recorded found None = (x : Cell) → IsCell x → differs recorded found x ≡ false
+IsFirstDiffer recorded found (Some d) = IsFirst recorded found d
