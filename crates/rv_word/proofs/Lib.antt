@@ -1,0 +1,7 @@
+pub mod Formats
+pub mod Lines
+pub mod SpellingMeaning
+pub mod MeaningSpelling
+pub mod WellFormedMeaning
+pub mod Inverse
+pub mod Registers
