@@ -1,0 +1,4 @@
+pub mod Local
+pub mod Registers
+pub mod Writes
+pub mod Worked

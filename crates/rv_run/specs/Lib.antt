@@ -1,0 +1,6 @@
+pub mod Values
+pub mod Effect
+pub mod Machine
+pub mod Calls
+pub mod Start
+pub mod Programs

@@ -1,0 +1,55 @@
+-- The machine: what a word does to a state, and which cells it reads and writes.
+use Rattle.std.specs.Prelude.{ℕ, Bool, true, false, not, ◌||◌, is_some, []}
+use Rattle.rv_word.specs.declared.inst.Inst.{Inst}
+use Rattle.rv_word.specs.Meaning.{meaning}
+use Rattle.cells.specs.Cells.{Arch, value, from_cells}
+use Rattle.cells.specs.Bytes.{byte_cells, number}
+use Rattle.cells.specs.Machine.{Machine}
+use Rattle.cells.specs.Seen.{among, puts_of, given_values}
+use Rattle.rv_run.specs.declared.Flow.{Flow}
+use Rattle.rv_run.specs.declared.Flow.TheVariants.{Next}
+use Rattle.rv_run.specs.Effect.{Effect, effect_at, cells}
+
+abbrev pub is_next : Flow → Bool
+is_next (Next t) = true
+is_next _ = false
+
+-- the pc afterwards, where the instruction goes on
+abbrev pub pc_after : ℕ → Flow → ℕ
+pc_after pc (Next t) = t
+pc_after pc _ = pc
+
+-- the state once the effect's cells were put
+unfoldable pub moved : Effect → Arch → Arch
+moved e s = record (from_cells (given_values (puts_of e.puts) (value s))) { pc = pc_after s.pc e.flow }
+
+-- this instruction, done where the pc is
+abbrev pub doing : Inst → Machine
+doing i = record {
+  stops = λ s. not (is_next (effect_at i s.pc (value s)).flow);
+  move = λ s. moved (effect_at i s.pc (value s)) s;
+  says = λ s. [];
+  reads = λ s x. among (cells i (value s)) x;
+  writes = λ s x. is_some (puts_of (effect_at i s.pc (value s)).puts x);
+}
+
+-- this word, done where the pc is
+abbrev pub exec : ℕ → Machine
+exec w = doing (meaning w)
+
+-- the word at the pc
+abbrev pub word_at : Arch → ℕ
+word_at s = number 4 s.pc s.mem
+
+-- the machine that fetches the word at the pc, reading its four bytes, and does what that word does
+abbrev pub fetching : (ℕ → Machine) → Machine
+fetching does = record {
+  stops = λ s. (does (word_at s)).stops s;
+  move = λ s. (does (word_at s)).move s;
+  says = λ s. (does (word_at s)).says s;
+  reads = λ s x. among (byte_cells 4 s.pc) x || (does (word_at s)).reads s x;
+  writes = λ s x. (does (word_at s)).writes s x;
+}
+
+abbrev pub machine : Machine
+machine = fetching exec

@@ -1,0 +1,37 @@
+//! The machine of RV32IM: what each word and each call does to a state, and the runs of a program.
+#![tactic(auto)]
+
+ghost use Rattle.std.specs.Prelude.{◌≡◌, ℕ, false};
+ghost use Rattle.cells.specs.declared.Cell.{Cell};
+ghost use Rattle.cells.specs.Cells.{value, is_pc};
+ghost use Rattle.cells.specs.Machine.{IsLocal};
+ghost use Rattle.cells.specs.Run.{State, is_over};
+ghost use Rattle.rv_run.specs.Machine.{machine, exec};
+ghost use Rattle.rv_run.specs.Calls.{step, writes};
+
+/// Where a run goes on after an instruction, or why the instruction alone doesn't say.
+#[derive(Clone, Copy, Debug, PartialEq, Eq)]
+pub enum Flow {
+    /// The pc of the next instruction.
+    Next(u32),
+    /// ECALL: a call, which the instruction itself doesn't perform.
+    Call,
+    /// EBREAK.
+    Break,
+    /// This word means no instruction.
+    Illegal(u32),
+    /// A jump or taken branch to this target, which is no multiple of 4.
+    Misfetch(u32),
+}
+
+/// What a step does rests on the pc and on the cells that it reads: for the word that is fetched,
+/// and for a word that is given.
+pub fn steps_are_local()
+    ensures fetched { IsLocal machine }
+    ensures given { (word : ℕ) → IsLocal (exec word) }
+{}
+
+/// What a step doesn't write stays, at calls too.
+pub fn unwritten_stays()
+    ensures { (s : State) (x : Cell) → is_over s ≡ false → is_pc x ≡ false → writes s x ≡ false → value (step s).arch x ≡ value s.arch x }
+{}
