@@ -1,0 +1,3 @@
+mod Directories
+mod Puts
+mod Pages

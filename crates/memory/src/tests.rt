@@ -1,0 +1,91 @@
+//! What no clause says: that the calls of a memory succeed, and what they answer at the borders of pages.
+use crate::{Memory, PlainMemory};
+use std::test::Fail;
+
+#[test]
+fn nothing_was_put(rt: HostRuntime) -> Result<(), Fail> {
+    let mut m = PlainMemory::empty(rt.alloc())?;
+    for a in [0, 1, 0xffd, 0xfff, 0x1000, 0x7fff_fffe, 0xffff_ffff] {
+        assert_eq!(rt; m.get(a), 0);
+        assert_eq!(rt; m.half(a), 0);
+        assert_eq!(rt; m.word(a), 0);
+    }
+    assert_eq!(rt; m.fetch(0x1_0000), 0);
+    Ok(())
+}
+
+#[test]
+fn a_put_wraps(rt: HostRuntime) -> Result<(), Fail> {
+    let mut m = PlainMemory::empty(rt.alloc())?;
+    m.put(rt.alloc(), 0xffff_ffff, &[0x11, 0x22, 0x33])?;
+    assert_eq!(rt; m.get(0xffff_ffff), 0x11);
+    assert_eq!(rt; m.get(0), 0x22);
+    assert_eq!(rt; m.get(1), 0x33);
+    assert_eq!(rt; m.get(0xffff_fffe), 0);
+    assert_eq!(rt; m.get(2), 0);
+    assert_eq!(rt; m.half(0xffff_ffff), 0x2211);
+    assert_eq!(rt; m.word(0xffff_fffe), 0x3322_1100);
+    assert_eq!(rt; m.fetch(0), 0x0000_3322);
+    m.put_word(rt.alloc(), 0xffff_fffd, 0x8877_6655)?;
+    assert_eq!(rt; m.word(0xffff_fffd), 0x8877_6655);
+    assert_eq!(rt; m.word(0), 0x0000_3388);
+    Ok(())
+}
+
+#[test]
+fn words_over_a_border(rt: HostRuntime) -> Result<(), Fail> {
+    let mut m = PlainMemory::empty(rt.alloc())?;
+    m.put_word(rt.alloc(), 0x40_2ffe, 0x4433_2211)?;
+    m.put_half(rt.alloc(), 0x40_3fff, 0x6655)?;
+    assert_eq!(rt; m.half(0x40_2ffe), 0x2211);
+    assert_eq!(rt; m.half(0x40_2fff), 0x3322);
+    assert_eq!(rt; m.word(0x40_2ffc), 0x2211_0000);
+    assert_eq!(rt; m.word(0x40_2ffd), 0x3322_1100);
+    assert_eq!(rt; m.word(0x40_2fff), 0x0044_3322);
+    assert_eq!(rt; m.word(0x40_3fff), 0x0000_6655);
+    assert_eq!(rt; m.fetch(0x40_2ffc), 0x2211_0000);
+    assert_eq!(rt; m.fetch(0x40_3000), 0x0000_4433);
+    assert_eq!(rt; m.fetch(0x40_2ffc), 0x2211_0000);
+    Ok(())
+}
+
+// A byte that tells its place: the remainders of 251, a prime, fall differently in each page.
+fn mark(i: u32) -> u8 {
+    (i % 251) as u8
+}
+
+#[test]
+fn a_long_put(rt: HostRuntime) -> Result<(), Fail> {
+    let first = 0x7f_fffd;
+    let mut bytes = Vec::new(rt.alloc());
+    for i in 0..65536 {
+        bytes.push(mark(i))?;
+    }
+    assert_eq!(rt; bytes.len(), 65536);
+    let mut m = PlainMemory::empty(rt.alloc())?;
+    m.put(rt.alloc(), first, &bytes)?;
+    for k in 0..16383 {
+        let i = 4 * k;
+        let wanted = u32::from_le_bytes([mark(i), mark(i + 1), mark(i + 2), mark(i + 3)]);
+        assert_eq!(rt; m.word(first + i), wanted, "at {i}");
+    }
+    assert_eq!(rt; m.get(first - 1), 0);
+    assert_eq!(rt; m.get(first + 65535), mark(65535));
+    assert_eq!(rt; m.get(first + 65536), 0);
+    Ok(())
+}
+
+#[test]
+fn a_snapshot_stands_apart(rt: HostRuntime) -> Result<(), Fail> {
+    let mut m = PlainMemory::empty(rt.alloc())?;
+    m.put(rt.alloc(), 0x1000, &[1, 2, 3, 4])?;
+    let mut s = m.snapshot(rt.alloc())?;
+    m.put(rt.alloc(), 0x1001, &[9])?;
+    s.put(rt.alloc(), 0x1002, &[8])?;
+    s.put(rt.alloc(), 0x5000, &[7])?;
+    assert_eq!(rt; m.word(0x1000), 0x0403_0901);
+    assert_eq!(rt; s.word(0x1000), 0x0408_0201);
+    assert_eq!(rt; m.get(0x5000), 0);
+    assert_eq!(rt; s.fetch(0x5000), 7);
+    Ok(())
+}
