@@ -1,0 +1,4 @@
+pub mod Executable
+pub mod Header
+pub mod Refusal
+pub mod Accepted
