@@ -1,0 +1,69 @@
+-- Options, one after the other.
+use Rattle.std.proofs.Common.{ℕ, ◌≡◌, ◌<◌, ◌-◌, ◌^◌, ◌==◌, ◌&&◌, ◌||◌, ap, sym, subst, refl, arith, Bool, true, false, if◌then◌else◌, List, [], ◌∷◌, length, map, Option, Some, None, option_and_then, IfSome, IsSome, is_some, is_none, codes, lit<}
+use Rattle.std.specs.List.{list_any}
+use Rattle.std.specs.Cmp.Lexicographic.{same_text}
+use Rattle.std.proofs.lemmas.Bool.Decides.{nat_tests}
+use Rattle.command_line.specs.declared.options.Kind.{Kind}
+use Rattle.command_line.specs.Number.{number_of, within, number_within}
+use Rattle.command_line.specs.Options.{same, takes, value_of, may_precede, are_options, IsNumberIfGiven}
+use Rattle.command_line.specs.Command.{run_options}
+
+pub list_any-map : {A B : Type 0} (test : B → Bool) (f : A → B) (xs : List A) → list_any test (map f xs) ≡ list_any (λ x. test (f x)) xs
+list_any-map test f [] = refl
+list_any-map test f (x ∷ xs) = ap (λ b. test (f x) || b) (list_any-map test f xs)
+
+-- one word gives no option a value
+pub value_of-short : {A : Type 0} (option : List ℕ) (bytes : A → List ℕ) (words : List A) → length words < 2 → value_of option (map bytes words) ≡ None
+value_of-short option bytes [] h = refl
+value_of-short option bytes (word ∷ []) h = refl
+value_of-short option bytes (word ∷ value ∷ words) h = grind arith
+
+-- fewer than two words are options just where there are none
+pub are_options-short : {A : Type 0} (table : List (List ℕ × Kind)) (bytes : A → List ℕ) (words : List A) → length words < 2
+    → are_options table (map bytes words) ≡ (length words == 0)
+are_options-short table bytes [] h = refl
+are_options-short table bytes (word ∷ []) h = refl
+are_options-short table bytes (option ∷ value ∷ words) h = grind arith
+
+both : (a b : Bool) → (a && b) ≡ true → (a ≡ true) × (b ≡ true)
+both true b h = (refl, h)
+both false b h = (h, cc)
+
+-- the value that one option gives, or that the words after it give
+given-next : (table : List (List ℕ × Kind)) (option other value : List ℕ) (words : List (List ℕ)) (b : Bool) → same other option ≡ b → takes table other value ≡ true
+    → IfSome (value_of option words) (λ v. takes table option v ≡ true)
+    → IfSome (if b then Some value else value_of option words) (λ v. takes table option v ≡ true)
+given-next table option other value words true e here later = subst (λ (o : List ℕ). takes table o value ≡ true) (same_text other option (sym e)) here
+given-next table option other value words false e here later = later
+
+-- what options give is what their table takes
+pub takes-given : (table : List (List ℕ × Kind)) (option : List ℕ) (words : List (List ℕ)) → are_options table words ≡ true
+    → IfSome (value_of option words) (λ v. takes table option v ≡ true)
+unfolding may_precede
+takes-given table option [] h = tt
+takes-given table option (word ∷ []) h = tt
+takes-given table option (other ∷ value ∷ words) h =
+    let parts = both (takes table other value && is_none (value_of other words)) (are_options table words) h in
+    given-next table option other value words (same other option) refl (both (takes table other value) (is_none (value_of other words)) parts.0).0
+    (takes-given table option words parts.1)
+
+-- a number within a range of 64 bits
+number_within-wider : (least most : ℕ) → most < 2 ^ 64 → (n : Option ℕ) → is_some (option_and_then (within least most) n) ≡ true
+    → is_some (option_and_then (within 0 (2 ^ 64 - 1)) n) ≡ true
+number_within-wider least most small None h = h
+number_within-wider least most small (Some n) h = grind (arith, nat_tests)
+
+-- options give a number of 64 bits where their table takes just the numbers of such a range
+pub number-given : (table : List (List ℕ × Kind)) (option : List ℕ) (least most : ℕ) → most < 2 ^ 64
+    → ((v : List ℕ) → takes table option v ≡ true → is_some (number_within least most v) ≡ true)
+    → (words : List (List ℕ)) → are_options table words ≡ true → IsNumberIfGiven option words
+number-given table option least most small numbers words h = go (value_of option words) (takes-given table option words h)
+  where
+    go : (o : Option (List ℕ)) → IfSome o (λ v. takes table option v ≡ true) → IfSome o (λ v. IsSome (number_within 0 (2 ^ 64 - 1) v))
+    go None given = given
+    go (Some v) given = number_within-wider least most small (number_of v) (numbers v given)
+
+-- `--budget` of `run` is a number of 64 bits
+pub budget-given : (words : List (List ℕ)) → are_options run_options words ≡ true → IsNumberIfGiven (codes "--budget") words
+unfolding takes
+budget-given words h = number-given run_options (codes "--budget") 1 (10 ^ 12) (lit< tt) (λ v e. grind (arith, e)) words h

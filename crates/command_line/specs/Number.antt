@@ -1,0 +1,23 @@
+-- Numbers as words of the command line.
+use Rattle.std.specs.Prelude.{ℕ, ◌+◌, ◌-◌, ◌*◌, ◌==◌, nat_le, not, ◌&&◌, ◌||◌, Bool, if◌then◌else◌, List, length, slice_index, fold, Option, Some, None, option_and_then}
+use Rattle.std.specs.Str.{all_ascii_digits}
+
+-- whether a word is a numeral: one ASCII digit or more and nothing else, and no first `0` (byte 48) before others
+abbrev pub is_numeral : List ℕ → Bool
+is_numeral word = all_ascii_digits word && not (length word == 0) && (length word == 1 || not (slice_index word 0 == 48))
+
+-- the number that digits write, the highest first
+abbrev pub decimal_value : List ℕ → ℕ
+decimal_value digits = fold (λ n c. n * 10 + (c - 48)) 0 digits
+
+-- the number that a word writes, however large, or None where it is no numeral
+abbrev pub number_of : List ℕ → Option ℕ
+number_of word = if is_numeral word then Some (decimal_value word) else None
+
+-- a number, if it is from the least to the most
+abbrev pub within : ℕ → ℕ → ℕ → Option ℕ
+within least most n = if nat_le least n && nat_le n most then Some n else None
+
+-- the number that a word writes, if it is within a range
+abbrev pub number_within : ℕ → ℕ → List ℕ → Option ℕ
+number_within least most word = option_and_then (within least most) (number_of word)

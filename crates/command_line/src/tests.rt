@@ -1,0 +1,142 @@
+//! Words as a new user would try them.
+
+use super::*;
+use crate::number::read_number;
+use std::alloc::{AllocError, Global};
+use std::test::Fail;
+
+fn words_of(alloc: Global, texts: &[&str]) -> Result<Vec<String>, AllocError> {
+    let mut words = Vec::new(alloc);
+    for text in texts {
+        words.push(String::from_str(alloc, text)?)?;
+    }
+    Ok(words)
+}
+
+#[test]
+fn reads_commands(rt: HostRuntime) -> Result<(), Fail> {
+    let cases: [(&[&str], &str, Option<&str>, u64); 9] = [
+        (&["run", "p"], "p", None, 1_000_000_000),
+        (&["run", "p", "--input", "f"], "p", Some("f"), 1_000_000_000),
+        (&["run", "p", "--budget", "1"], "p", None, 1),
+        (
+            &["run", "p", "--budget", "1000000000000"],
+            "p",
+            None,
+            1_000_000_000_000,
+        ),
+        (
+            &["run", "p", "--input", "f", "--budget", "20"],
+            "p",
+            Some("f"),
+            20,
+        ),
+        (
+            &["run", "p", "--budget", "20", "--input", "f"],
+            "p",
+            Some("f"),
+            20,
+        ),
+        (&["run", "--input"], "--input", None, 1_000_000_000),
+        (
+            &["run", "--budget", "--input", "--budget"],
+            "--budget",
+            Some("--budget"),
+            1_000_000_000,
+        ),
+        (
+            &["run", "run", "--input", "a b"],
+            "run",
+            Some("a b"),
+            1_000_000_000,
+        ),
+    ];
+    for (texts, program, input, budget) in cases {
+        let words = words_of(rt.alloc(), texts)?;
+        let want = Run {
+            program,
+            input,
+            budget,
+        };
+        assert_eq!(rt;
+            read_command(&words),
+            Some(Command::Run(want)),
+            "at {texts:?}"
+        );
+    }
+    Ok(())
+}
+
+#[test]
+fn refuses_other_words(rt: HostRuntime) -> Result<(), Fail> {
+    let cases: [&[&str]; 31] = [
+        &[],
+        &[""],
+        &["run"],
+        &["run", ""],
+        &["Run", "p"],
+        &["runs", "p"],
+        &["ru", "p"],
+        &["p", "run"],
+        &["--budget", "1", "run", "p"],
+        &["run", "--input", "f", "p"],
+        &["run", "p", "q"],
+        &["run", "p", "--input"],
+        &["run", "p", "--input", ""],
+        &["run", "p", "--input=f"],
+        &["run", "p", "--inputs", "f"],
+        &["run", "p", "-input", "f"],
+        &["run", "p", "--INPUT", "f"],
+        &["run", "p", "", "f"],
+        &["run", "p", "--input", "f", "--input", "f"],
+        &["run", "p", "--budget", "1", "--input", "f", "--budget", "1"],
+        &["run", "p", "--budget"],
+        &["run", "p", "--budget", ""],
+        &["run", "p", "--budget", "0"],
+        &["run", "p", "--budget", "01"],
+        &["run", "p", "--budget", "+1"],
+        &["run", "p", "--budget", "-1"],
+        &["run", "p", "--budget", "1000000000001"],
+        &["run", "p", "--budget", "18446744073709551617"],
+        &["run", "p", "--budget", "100000000000000000001"],
+        &["run", "p", "--budget", "f", "--input", "1"],
+        &["run", "p", "--input", "f", "--budget", "1", "more"],
+    ];
+    for texts in cases {
+        let words = words_of(rt.alloc(), texts)?;
+        assert_eq!(rt; read_command(&words), None, "at {texts:?}");
+    }
+    Ok(())
+}
+
+#[test]
+fn reads_numbers(rt: HostRuntime) {
+    let cases = [
+        ("0", Some(0)),
+        ("7", Some(7)),
+        ("10", Some(10)),
+        ("1234567890", Some(1_234_567_890)),
+        ("9999999999999999999", Some(9_999_999_999_999_999_999)),
+        ("18446744073709551615", Some(u64::MAX)),
+        ("18446744073709551616", None),
+        ("99999999999999999999", None),
+        ("100000000000000000000", None),
+        ("00000000000000000001", None),
+        ("", None),
+        ("00", None),
+        ("+7", None),
+        ("-0", None),
+        (" 7", None),
+        ("7 ", None),
+        ("1_000", None),
+        ("1,000", None),
+        ("0x10", None),
+        ("1e3", None),
+        ("1.0", None),
+        ("\u{0661}", None),
+        ("\u{ff11}", None),
+    ];
+    for (word, want) in cases {
+        assert_eq!(rt; read_number(word), want, "at {word:?}");
+    }
+}
