@@ -1,0 +1,5 @@
+pub mod Ready
+pub mod Runs
+pub mod Parts
+pub mod Drives
+pub mod Complete

@@ -1,0 +1,5 @@
+pub mod Answer
+pub mod Told
+pub mod Files
+pub mod Driven
+pub mod Top
