@@ -1,0 +1,9 @@
+//! Whole runs, from the words of a command to its bytes and its status: the tests that cross crates.
+#![tactic(auto)]
+
+#[cfg(test)]
+mod outside_world;
+#[cfg(test)]
+mod programs;
+#[cfg(test)]
+mod tests;

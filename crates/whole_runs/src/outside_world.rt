@@ -1,0 +1,77 @@
+//! What a command is performed over, and what it leaves there.
+ghost use Rattle.std.specs.Prelude.{◌≡◌, IfOk, string_bytes};
+ghost use Rattle.outside.specs.Files.{HasDistinctNames};
+
+use mssp_tool::mssp;
+use outside::{MemSink, MemStore};
+use std::alloc::{AllocError, Global};
+
+/// The numbers of the call of the store, of the output and of the line that fails, counted from 1;
+/// 0 is no call's.
+#[derive(Clone, Copy)]
+pub struct Fails {
+    pub store: u64,
+    pub out: u64,
+    pub err: u64,
+}
+
+/// Nothing fails.
+pub const SURE: Fails = Fails {
+    store: 0,
+    out: 0,
+    err: 0,
+};
+
+/// What a command left.
+#[derive(Drop)]
+pub struct Left {
+    pub status: u8,
+    pub out: Vec<u8>,
+    pub err: Vec<u8>,
+}
+
+fn file(alloc: Global, name: &str, bytes: Vec<u8>) -> Result<(String, Vec<u8>), AllocError>
+    ensures { IfOk result (λ f. string_bytes f.0 ≡ name.now) }
+{
+    Ok((String::from_str(alloc, name)?, bytes))
+}
+
+fn files(
+    alloc: Global,
+    program: Vec<u8>,
+    input: Vec<u8>,
+) -> Result<Vec<(String, Vec<u8>)>, AllocError>
+    ensures { IfOk result (λ files. HasDistinctNames files.items) }
+{
+    let files = vec![in alloc; file(alloc, "p", program)?, file(alloc, "i", input)?]?;
+    Ok(files)
+}
+
+fn words_of(alloc: Global, texts: &[&str]) -> Result<Vec<String>, AllocError> {
+    let mut words = Vec::new(alloc);
+    for text in texts {
+        words.push(String::from_str(alloc, text)?)?;
+    }
+    Ok(words)
+}
+
+/// Performs a command where the file `p` is the program and `i` the input.
+pub fn perform(
+    alloc: Global,
+    words: &[&str],
+    program: Vec<u8>,
+    input: Vec<u8>,
+    fails: Fails,
+) -> Result<Left, AllocError> {
+    let words = words_of(alloc, words)?;
+    let files = files(alloc, program, input)?;
+    let mut store = MemStore::new(alloc, files, vec![in alloc; fails.store]?)?;
+    let mut out = MemSink::new(alloc, vec![in alloc; fails.out]?);
+    let mut err = MemSink::new(alloc, vec![in alloc; fails.err]?);
+    let status = mssp(alloc, &words, &mut store, &mut out, &mut err);
+    Ok(Left {
+        status,
+        out: out.bytes().to_vec(alloc)?,
+        err: err.bytes().to_vec(alloc)?,
+    })
+}
