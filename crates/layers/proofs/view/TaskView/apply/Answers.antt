@@ -1,0 +1,13 @@
+-- The registers and the bytes that were put are laid over the state.
+use Rattle.std.proofs.Common.{ℕ, ap, ◌∙◌, unwrap_or}
+use Rattle.layers.specs.Notes.{at}
+use Rattle.layers.specs.Layered.{read_of, base_of}
+use Rattle.layers.proofs.Cells.{laid_all}
+use Rattle.layers.proofs.view.TaskView.apply.Goals as goal
+
+pub returns-clause-ok : goal.returns-clause-ok
+returns-clause-ok g c =
+    let v = c.args.self.now in
+    let a = c.args.a.now in
+    laid_all (base_of g.M.Memory.at v) (read_of v) v.put_regs (at v.writes) c.args.pc a.pc a.regs c.lay_registers.new.regs (g.M.Memory.at a.mem) (g.M.Memory.at c.put_into.new.mem)
+    c.lay_registers.ensures (λ q. c.in_ok-put_into.ensures q ∙ ap (λ (m : ℕ → ℕ). unwrap_or (at v.writes q) (m q)) c.in_ok-mem.ensures)
