@@ -1,0 +1,19 @@
+-- Each anchor is the next of those that are still read.
+use Rattle.std.proofs.Common.{ℕ, ◌+◌}
+use Rattle.std.proofs.lemmas.Result.{err_from_is_err_and}
+use Rattle.dist_image.specs.declared.image.Anchor.{Anchor}
+use Rattle.dist_image.specs.Reading.{next_anchor, anchors_in}
+use Rattle.dist_image.proofs.Loop.{goes_on, fails, is_done}
+use Rattle.dist_image.proofs.reading.read_anchors.Goals as goal
+
+pub returns-in_err-anchor : goal.returns-in_err-anchor
+returns-in_err-anchor c =
+    let p = err_from_is_err_and c.from_residual.result c.from_residual.ensures.1 in
+    rw (p.1, p.2) (fails {S = ℕ} (next_anchor c.args.slots) (λ _ (a : Anchor). a.pc + 1) c.loop-number.anchors.items c.args.count c.loop-number.number c.loop-number.due c.loop-number.rest.now (anchors_in c.args.slots c.args.count c.args.bytes.now) c.loop-number.invariant c.in_err-anchor.field-0.0 c.loop-number-test.true c.in_err-anchor.ensures)
+
+pub loop-number-preserved : goal.loop-number-preserved
+loop-number-preserved c =
+    rw (c.in_ok-push.ensures.items, c.from-due.ensures) (goes_on {S = ℕ} (next_anchor c.args.slots) (λ _ (a : Anchor). a.pc + 1) c.loop-number.anchors.items c.args.count c.loop-number.number c.loop-number.due c.loop-number.rest.now (anchors_in c.args.slots c.args.count c.args.bytes.now) c.loop-number.invariant c.in_ok-anchor.anchor c.in_ok-anchor.after.now c.loop-number-test.true c.in_ok-anchor.ensures)
+
+pub returns : goal.returns
+returns c = is_done {S = ℕ} (next_anchor c.args.slots) (λ _ (a : Anchor). a.pc + 1) c.loop-number.anchors.items c.args.count c.loop-number.number c.loop-number.due c.loop-number.rest.now (anchors_in c.args.slots c.args.count c.args.bytes.now) c.loop-number.invariant c.loop-number-test.false

@@ -1,0 +1,12 @@
+-- The assumptions so far, with those that are still read, are all assumptions.
+use Rattle.std.proofs.Common.{◌≡◌, ◌≤◌, ◌-◌, map}
+use Rattle.dist_image.specs.Image.{premise}
+use Rattle.dist_image.specs.Reading.{entries, next_premise, see_premise, premises_in}
+use Rattle.dist_image.proofs.Loop.{with_front}
+use Rattle.dist_image.proofs.reading.read_assumptions.Given as goal
+
+abbrev pub invariant-loop-number : goal.invariant-loop-number
+invariant-loop-number l = record {
+  read : with_front (map premise l.assumptions.items) (entries next_premise see_premise (l.count - l.number) l.number (l.due, l.targets) l.rest) ≡ premises_in l.count l.bytes;
+  few : l.targets ≤ 1_048_576;
+}

@@ -1,0 +1,3 @@
+pub mod Image
+pub mod Bytes
+pub mod Reading

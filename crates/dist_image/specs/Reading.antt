@@ -1,0 +1,218 @@
+-- Reading an image from the front of its bytes to their end, with the first test that fails.
+use Rattle.std.specs.Prelude.{◌≡◌, ℕ, zero, suc, ◌+◌, ◌*◌, ◌%◌, ◌^◌, ◌==◌, nat_lt, nat_le, not, ◌&&◌, Bool, if◌then◌else◌, ◌⊎◌, List, [], ◌∷◌, length, take, drop, Option, Some, None, Result, Ok, Err}
+use Rattle.std.specs.Int.{w32, from_le_bytes}
+use Rattle.dist_image.specs.declared.error.Table.TheVariants as table
+use Rattle.dist_image.specs.declared.error.ImageErr.{ImageErr}
+use Rattle.dist_image.specs.declared.error.ImageErr.TheVariants.{Short, Magic, Version, Limit, TooMany, Kind, Range, Order, Long, Memory}
+use Rattle.dist_image.specs.declared.image.Slot.{Slot}
+use Rattle.dist_image.specs.declared.image.Slot.TheVariants.{Exec, Go, Fork}
+use Rattle.dist_image.specs.declared.image.Anchor.{Anchor}
+use Rattle.dist_image.specs.declared.image.Note.{Note}
+use Rattle.dist_image.specs.declared.header.Header.{Header}
+use Rattle.dist_image.specs.declared.entry.Head.{Head}
+use Rattle.dist_image.specs.Image.{Premise, Cut, Targets, Dead, Code, Within, Span, Distilled, key_of, targets_of}
+
+-- one step and then another, unless the first fails
+infixl 10 ◌>>=◌
+abbrev pub ◌>>=◌ : {A B : Type 0} → Result A ImageErr → (A → Result B ImageErr) → Result B ImageErr
+(Ok x) >>= f = f x
+(Err e) >>= f = Err e
+
+-- What a call returned, seen by view, is what reading gives, or it is want of memory.
+abbrev pub Gives : {X Y : Type 0} → (X → Y) → Result X ImageErr → Result Y ImageErr → Type 0
+Gives view (Ok x) read = read ≡ Ok (view x)
+Gives view (Err e) read = (e ≡ Memory) ⊎ (read ≡ Err e)
+
+-- the number in the next four bytes, and the bytes after it
+abbrev pub next_word : List ℕ → Result (ℕ × List ℕ) ImageErr
+next_word bytes = if nat_lt (length bytes) 4 then Err Short else Ok (from_le_bytes w32 (take 4 bytes), drop 4 bytes)
+
+-- Entries one after the other, as many as are counted. What reads one is given its number, and what was seen of those before it.
+unfoldable pub entries : {A S : Type 0} → (ℕ → S → List ℕ → Result (A × List ℕ) ImageErr) → (S → A → S) → ℕ → ℕ → S → List ℕ → Result (List A × List ℕ) ImageErr
+entries read see zero i seen bytes = Ok ([], bytes)
+entries read see (suc n) i seen bytes = do
+  first ← read i seen bytes
+  others ← entries read see n (i + 1) (see seen first.0) first.1
+  Ok (first.0 ∷ others.0, others.1)
+
+abbrev pub is_aligned : ℕ → Bool
+is_aligned a = a % 4 == 0
+
+-- ---- the header
+
+-- the tests of the header, in their order
+abbrev pub admit_header : ℕ → ℕ → Header → Result Header ImageErr
+admit_header magic version h =
+    if not (magic == 0x5053_534D) then Err Magic
+    else if not (version == 1) then Err Version
+    else if not (nat_le 16 h.limit && nat_le h.limit 16_384) then Err Limit
+    else if nat_lt 1_048_576 h.slots then Err (TooMany table.Slots)
+    else if nat_lt 524_288 h.anchors then Err (TooMany table.Anchors)
+    else if nat_lt 524_288 h.notes then Err (TooMany table.Notes)
+    else if nat_lt 1_048_576 h.assumptions then Err (TooMany table.Assumptions)
+    else Ok h
+
+unfoldable pub next_header : List ℕ → Result (Header × List ℕ) ImageErr
+next_header bytes = if nat_lt (length bytes) 28 then Err Short else do
+  magic ← next_word bytes
+  version ← next_word magic.1
+  limit ← next_word version.1
+  slots ← next_word limit.1
+  anchors ← next_word slots.1
+  notes ← next_word anchors.1
+  assumptions ← next_word notes.1
+  header ← admit_header magic.0 version.0 (record { limit = limit.0; slots = slots.0; anchors = anchors.0; notes = notes.0; assumptions = assumptions.0 })
+  Ok (header, assumptions.1)
+
+-- ---- slots
+
+-- the slot of a kind and two numbers, where the kind is known and what must be 0 is
+abbrev pub slot_from : ℕ → ℕ → ℕ → Option Slot
+slot_from kind a b =
+    if kind == 0 then Some (Exec a b)
+    else if kind == 1 && b == 0 then Some (Go a)
+    else if kind == 2 && b == 0 then Some (Fork a)
+    else None
+
+-- whether a slot is in range, beside this number of anchors
+abbrev pub is_slot : ℕ → Slot → Bool
+is_slot anchors (Exec origin word) = is_aligned origin
+is_slot anchors (Go target) = is_aligned target
+is_slot anchors (Fork anchor) = nat_lt anchor anchors
+
+-- the tests of slot i
+abbrev pub admit_slot : ℕ → ℕ → Option Slot → Result Slot ImageErr
+admit_slot anchors i None = Err (Kind table.Slots i)
+admit_slot anchors i (Some s) = if is_slot anchors s then Ok s else Err (Range table.Slots i)
+
+unfoldable pub next_slot : ℕ → ℕ → List ℕ → Result (Slot × List ℕ) ImageErr
+next_slot anchors i bytes = do
+  kind ← next_word bytes
+  a ← next_word kind.1
+  b ← next_word a.1
+  s ← admit_slot anchors i (slot_from kind.0 a.0 b.0)
+  Ok (s, b.1)
+
+-- ---- anchors and notes: the pc of each is at least the one that is due, which is above the one before
+
+abbrev pub admit_anchor : ℕ → ℕ → ℕ → Anchor → Result Anchor ImageErr
+admit_anchor slots i due a =
+    if not (is_aligned a.pc && nat_lt a.slot slots && nat_le 1 a.count && nat_le a.count 64) then Err (Range table.Anchors i)
+    else if nat_lt a.pc due then Err (Order table.Anchors i)
+    else Ok a
+
+unfoldable pub next_anchor : ℕ → ℕ → ℕ → List ℕ → Result (Anchor × List ℕ) ImageErr
+next_anchor slots i due bytes = do
+  pc ← next_word bytes
+  slot ← next_word pc.1
+  count ← next_word slot.1
+  a ← admit_anchor slots i due (record { pc = pc.0; slot = slot.0; count = count.0 })
+  Ok (a, count.1)
+
+abbrev pub is_mask : ℕ → Bool
+is_mask m = m % 2 == 0
+
+abbrev pub admit_note : ℕ → ℕ → ℕ → Note → Result Note ImageErr
+admit_note slots i due n =
+    if not (is_aligned n.pc && nat_lt n.slot slots && is_mask n.live && is_mask n.need) then Err (Range table.Notes i)
+    else if nat_lt n.pc due then Err (Order table.Notes i)
+    else Ok n
+
+unfoldable pub next_note : ℕ → ℕ → ℕ → List ℕ → Result (Note × List ℕ) ImageErr
+next_note slots i due bytes = do
+  pc ← next_word bytes
+  slot ← next_word pc.1
+  live ← next_word slot.1
+  need ← next_word live.1
+  n ← admit_note slots i due (record { pc = pc.0; slot = slot.0; live = live.0; need = need.0 })
+  Ok (n, need.1)
+
+-- ---- assumptions
+
+-- the tests of a target of assumption i
+abbrev pub admit_target : ℕ → ℕ → ℕ → Result ℕ ImageErr
+admit_target i due to =
+    if not (is_aligned to) then Err (Range table.Targets i)
+    else if nat_lt to due then Err (Order table.Targets i)
+    else Ok to
+
+unfoldable pub next_target : ℕ → ℕ → List ℕ → Result (ℕ × List ℕ) ImageErr
+next_target i due bytes = do
+  word ← next_word bytes
+  to ← admit_target i due word.0
+  Ok (to, word.1)
+
+-- the targets of assumption i
+abbrev pub targets_in : ℕ → ℕ → List ℕ → Result (List ℕ × List ℕ) ImageErr
+targets_in i count bytes = entries {S = ℕ} (λ _ due rest. next_target i due rest) (λ _ to. to + 1) count 0 0 bytes
+
+-- whether the kind of an assumption is known, and its other numbers have a meaning for it
+abbrev pub has_form : Head → Bool
+has_form h =
+    if h.kind == 0 then nat_le h.value 1 && h.targets == 0
+    else if h.kind == 1 then h.value == 0
+    else if h.kind == 2 then h.value == 0 && h.targets == 0
+    else nat_le h.kind 5 && h.at == 0 && h.value == 0 && h.targets == 0
+
+-- The tests of assumption i up to its targets: the key that is due, the number of targets before it, and the number of bytes after these four numbers play a part.
+abbrev pub admit_head : ℕ → ℕ → ℕ → ℕ → Head → Result Head ImageErr
+admit_head i due before left h =
+    if not (has_form h) then Err (Kind table.Assumptions i)
+    else if not (is_aligned h.at) then Err (Range table.Assumptions i)
+    else if nat_lt (2 ^ 32 * h.kind + h.at) due then Err (Order table.Assumptions i)
+    else if nat_lt 1_048_576 (before + h.targets) then Err (TooMany table.Targets)
+    else if nat_lt left (4 * h.targets) then Err Short
+    else Ok h
+
+unfoldable pub next_head : ℕ → ℕ → ℕ → List ℕ → Result (Head × List ℕ) ImageErr
+next_head i due before bytes = do
+  kind ← next_word bytes
+  at ← next_word kind.1
+  value ← next_word at.1
+  targets ← next_word value.1
+  h ← admit_head i due before (length targets.1) (record { kind = kind.0; at = at.0; value = value.0; targets = targets.0 })
+  Ok (h, targets.1)
+
+-- the assumption that these numbers and targets are
+abbrev pub premise_from : Head → List ℕ → Premise
+premise_from h to =
+    if h.kind == 0 then Cut h.at (h.value == 1)
+    else if h.kind == 1 then Targets h.at to
+    else if h.kind == 2 then Dead h.at
+    else if h.kind == 3 then Code
+    else if h.kind == 4 then Within
+    else Span
+
+-- seen are the key that is due, and the number of targets so far
+unfoldable pub next_premise : ℕ → ℕ × ℕ → List ℕ → Result (Premise × List ℕ) ImageErr
+next_premise i seen bytes = do
+  h ← next_head i seen.0 seen.1 bytes
+  to ← targets_in i h.0.targets h.1
+  Ok (premise_from h.0 to.0, to.1)
+
+abbrev pub see_premise : ℕ × ℕ → Premise → ℕ × ℕ
+see_premise seen p = (key_of p + 1, seen.1 + length (targets_of p))
+
+-- ---- the tables, and the whole
+
+abbrev pub slots_in : ℕ → ℕ → List ℕ → Result (List Slot × List ℕ) ImageErr
+slots_in anchors count bytes = entries {S = ℕ} (λ i _ rest. next_slot anchors i rest) (λ seen _. seen) count 0 0 bytes
+
+abbrev pub anchors_in : ℕ → ℕ → List ℕ → Result (List Anchor × List ℕ) ImageErr
+anchors_in slots count bytes = entries {S = ℕ} (next_anchor slots) (λ _ a. a.pc + 1) count 0 0 bytes
+
+abbrev pub notes_in : ℕ → ℕ → List ℕ → Result (List Note × List ℕ) ImageErr
+notes_in slots count bytes = entries {S = ℕ} (next_note slots) (λ _ n. n.pc + 1) count 0 0 bytes
+
+abbrev pub premises_in : ℕ → List ℕ → Result (List Premise × List ℕ) ImageErr
+premises_in count bytes = entries next_premise see_premise count 0 (0, 0) bytes
+
+-- all of the bytes
+unfoldable pub image_from : List ℕ → Result Distilled ImageErr
+image_from bytes = do
+  h ← next_header bytes
+  slots ← slots_in h.0.anchors h.0.slots h.1
+  anchors ← anchors_in h.0.slots h.0.anchors slots.1
+  notes ← notes_in h.0.slots h.0.notes anchors.1
+  assumptions ← premises_in h.0.assumptions notes.1
+  if length assumptions.1 == 0 then Ok (record { limit = h.0.limit; slots = slots.0; anchors = anchors.0; notes = notes.0; assumptions = assumptions.0 }) else Err Long

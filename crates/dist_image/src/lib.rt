@@ -1,0 +1,22 @@
+//! Images: what a distilled program tells the master, and the file format that holds it.
+//!
+//! An image has a task limit and four tables. Nothing about an image is trusted: it need not fit any
+//! program, and a machine that runs beside it gives the same result whatever it says.
+#![tactic(auto)]
+
+mod entry;
+mod error;
+mod header;
+mod image;
+mod lookup;
+mod reading;
+mod writing;
+
+pub use error::{ImageErr, Table};
+pub use image::{Anchor, Assumption, Image, Note, Slot, empty_image};
+pub use lookup::{anchor_at, slot_of};
+pub use reading::read_image;
+pub use writing::write_image;
+
+#[cfg(test)]
+mod tests;
