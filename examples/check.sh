@@ -1,0 +1,114 @@
+#!/bin/bash
+# check.sh BINARY   runs every example by the mssp program BINARY
+# check.sh --qemu   runs those that qemu-riscv32 agrees on by that
+#
+# A case is NAME of expected/NAME.status.  Its program is bin/P.elf, P being NAME up to
+# the first '-'; its input is input/NAME.in, if there is one.  Output and status have to
+# be those of expected/NAME.out and NAME.status, and what goes to standard error that of
+# NAME.err (nothing, if there is no such file).
+#
+# expected/NAME.steps holds the number of instructions of the run.  With that number as
+# its budget mssp has to end in the same way; with one less, with status 120.  This part is
+# left out for a program that isn't the counted one, by expected/SHA256SUMS.
+#
+# Cases with a line on standard error end by a trap, which is a signal under Linux, so
+# --qemu leaves them out.
+#
+# Status: 0 all passed, 1 some failed, 2 wrong words, 77 nothing was run.
+
+cd "$(dirname "$0")" || exit 2
+usage() { sed -n 's/^# //p' check.sh | head -2 >&2; exit 2; }
+
+[ $# -le 1 ] || usage
+if [ $# = 0 ]; then
+  echo "check.sh: skipped: no binary given (check.sh BINARY)"
+  exit 77
+fi
+if [ "$1" = --qemu ]; then
+  if ! command -v qemu-riscv32 >/dev/null; then
+    echo "check.sh: skipped: qemu-riscv32 isn't installed"
+    exit 77
+  fi
+  binary=
+else
+  binary=$1
+  case $binary in /*) ;; *) binary=$OLDPWD/$binary ;; esac
+  if [ ! -f "$binary" ] || [ ! -x "$binary" ]; then
+    echo "check.sh: $1 is no program" >&2
+    exit 2
+  fi
+fi
+
+room=$(mktemp -d) || exit 2
+trap 'rm -rf "$room"' EXIT
+
+# run_case NAME [BUDGET]: leaves what it wrote in $room/out and $room/err, its status in $status
+run_case() {
+  local program=bin/${1%%-*}.elf input=input/$1.in words=()
+  if [ -n "$binary" ]; then
+    [ -f "$input" ] && words+=(--input "$input")
+    [ $# = 2 ] && words+=(--budget "$2")
+    "$binary" run "$program" "${words[@]}" >"$room/out" 2>"$room/err" </dev/null
+  else
+    [ -f "$input" ] || input=/dev/null
+    qemu-riscv32 "$program" >"$room/out" 2>"$room/err" <"$input"
+  fi
+  status=$?
+}
+
+# the case NAME has the expected answer; otherwise says how it differs
+as_expected() {
+  local wanted err=/dev/null
+  wanted=$(<"expected/$1.status")
+  [ -f "expected/$1.err" ] && err=expected/$1.err
+  if [ "$status" != "$wanted" ]; then
+    echo "FAILED $1$2: status $status for $wanted: $(head -c 200 "$room/err")"
+    return 1
+  fi
+  if ! cmp "$room/out" "expected/$1.out" >"$room/differ" 2>&1; then
+    echo "FAILED $1$2: output: $(<"$room/differ")"
+    return 1
+  fi
+  if ! cmp "$room/err" "$err" >"$room/differ" 2>&1; then
+    echo "FAILED $1$2: standard error: $(head -c 200 "$room/err")"
+    return 1
+  fi
+}
+
+# with one step less the run is cut off
+cut_off() {
+  if [ "$status" != 120 ] || [ "$(<"$room/err")" != 'mssp: budget' ]; then
+    echo "FAILED $1 with a budget of one step less: status $status for 120: $(head -c 200 "$room/err")"
+    return 1
+  fi
+}
+
+is_counted() { (cd bin && grep " $1.elf\$" ../expected/SHA256SUMS | sha256sum --check --status 2>/dev/null); }
+
+passed=0 failed=0 uncounted=
+for file in expected/*.status; do
+  name=$(basename "$file" .status)
+  if [ -z "$binary" ] && [ -f "expected/$name.err" ]; then
+    echo "left out: $name"
+    continue
+  fi
+  run_case "$name"
+  if ! as_expected "$name" ''; then
+    failed=$((failed + 1))
+    continue
+  fi
+  if [ -n "$binary" ] && is_counted "${name%%-*}"; then
+    steps=$(<"expected/$name.steps")
+    run_case "$name" "$steps"
+    as_expected "$name" " with a budget of $steps" || { failed=$((failed + 1)); continue; }
+    run_case "$name" $((steps - 1))
+    cut_off "$name" || { failed=$((failed + 1)); continue; }
+  elif [ -n "$binary" ]; then
+    uncounted="$uncounted $name"
+  fi
+  passed=$((passed + 1))
+done
+
+[ -z "$uncounted" ] || echo "not the counted programs, so without the budgets:$uncounted"
+echo "$passed passed, $failed failed"
+[ "$failed" = 0 ]
