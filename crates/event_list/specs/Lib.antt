@@ -1,0 +1,5 @@
+pub mod Number
+pub mod Form
+pub mod Lines
+pub mod Reading
+pub mod Spelling
