@@ -1,0 +1,23 @@
+-- By computing.
+use Rattle.std.proofs.Common.{refl}
+use Rattle.image_world.proofs.rows_are_worked.Goals as goal
+
+pub returns-clause-turns : goal.returns-clause-turns
+unfolding Rattle.speculation.specs.Engine.happens Rattle.image_world.specs.World.drive Rattle.image_world.specs.World.begin Rattle.rv_run.specs.Machine.moved Rattle.cells.specs.Seen.given_values
+returns-clause-turns c = refl
+
+pub returns-clause-met : goal.returns-clause-met
+unfolding Rattle.speculation.specs.Engine.happens Rattle.image_world.specs.World.drive Rattle.image_world.specs.World.begin Rattle.rv_run.specs.Machine.moved Rattle.cells.specs.Seen.given_values
+returns-clause-met c = refl
+
+pub returns-clause-ended : goal.returns-clause-ended
+unfolding Rattle.speculation.specs.Engine.happens Rattle.image_world.specs.World.drive Rattle.image_world.specs.World.begin Rattle.rv_run.specs.Machine.moved Rattle.cells.specs.Seen.given_values Rattle.rv_run.specs.Calls.call
+returns-clause-ended c = refl
+
+pub returns-clause-circle : goal.returns-clause-circle
+unfolding Rattle.speculation.specs.Engine.happens Rattle.image_world.specs.World.drive Rattle.image_world.specs.World.begin Rattle.rv_run.specs.Machine.moved Rattle.cells.specs.Seen.given_values
+returns-clause-circle c = refl
+
+pub returns-clause-lost : goal.returns-clause-lost
+unfolding Rattle.speculation.specs.Engine.happens Rattle.image_world.specs.World.drive Rattle.image_world.specs.World.begin Rattle.rv_run.specs.Machine.moved Rattle.cells.specs.Seen.given_values
+returns-clause-lost c = refl
