@@ -1,0 +1,47 @@
+-- The master of the code as the world has it, and its answers as what an event of the world's master does.
+use Rattle.std.specs.Prelude.{◌≡◌, ℕ, ◌+◌, ◌*◌, ◌&&◌, cond, nat_eq, nat_lt, slice_get, Option, Some, None, unwrap_or}
+use Rattle.std.specs.Option.{option_map}
+use Rattle.speculation.specs.World.{Master, Driven, Goes, Spawns, Stays, Halts}
+use Rattle.rv_run.specs.Values.{arch_of}
+use Rattle.dist_image.specs.declared.image.Slot.{Slot}
+use Rattle.dist_image.specs.declared.image.Slot.TheVariants.{Fork}
+use Rattle.dist_image.specs.declared.image.Anchor.{Anchor}
+use Rattle.dist_image.specs.Image.{Distilled}
+use Rattle.master.specs.declared.master.Master.{Master as CodeMaster}
+use Rattle.master.specs.declared.master.MasterDid.{MasterDid}
+use Rattle.master.specs.declared.master.MasterDid.TheVariants.{Moved, Spawned, Stalled, Halted}
+
+-- `at` gives the bytes of the code's memory
+abbrev pub shown : {M : Type 0} → (M → ℕ → ℕ) → CodeMaster M → Master
+shown at m = record { slot = m.slot; arch = arch_of m.arch.pc m.arch.regs (at m.arch.mem); left = m.left; spent = m.spent }
+
+-- the anchor's number, if the slot is a Fork
+abbrev pub forking : Option Slot → Option ℕ
+forking (Some (Fork k)) = Some k
+forking _ = None
+
+-- the number of the anchor where the next event spawns a task, if it would
+unfoldable pub next_spawn : Distilled → Master → Option ℕ
+next_spawn image a = cond (nat_lt a.spent (4 * image.limit + 4) && nat_eq a.left 1) (forking (slice_get image.slots a.slot)) None
+
+-- the pc of the anchor of a number
+abbrev pub anchor_pc : Distilled → ℕ → ℕ
+anchor_pc image k = unwrap_or (option_map (λ (x : Anchor). x.pc) (slice_get image.anchors k)) 0
+
+-- an answer, where the master is `a` afterwards
+abbrev pub as_driven : Distilled → MasterDid → Master → Driven
+as_driven image Moved a = Goes a
+as_driven image (Spawned k) a = Spawns (anchor_pc image k) a
+as_driven image Stalled a = Stays
+as_driven image (Halted why) a = Halts why
+
+-- an answer after which the master is as it was before
+abbrev pub Keeps : Master → Master → MasterDid → Type 0
+Keeps a b Stalled = b ≡ a
+Keeps a b (Halted why) = b ≡ a
+Keeps a b _ = Unit {0}
+
+-- an answer that tells a spawn tells the anchor that was due
+abbrev pub SpawnsNext : Option ℕ → MasterDid → Type 0
+SpawnsNext due (Spawned k) = due ≡ Some k
+SpawnsNext due _ = Unit {0}
