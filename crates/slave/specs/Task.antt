@@ -1,0 +1,94 @@
+-- What contracts see of a task, what an event does to it, and that it is a task of an image.
+use Rattle.std.specs.Prelude.{◌≡◌, ℕ, ◌+◌, ◌-◌, ◌%◌, cond, false, nat_eq, Option, Some, None, is_some}
+use Rattle.std.specs.Int.{from_bool}
+use Rattle.cells.specs.declared.Cell.{Cell}
+use Rattle.cells.specs.declared.Cell.TheVariants.{Pc}
+use Rattle.cells.specs.Cells.{value, from_cells}
+use Rattle.cells.specs.Run.{State, is_over, iterate}
+use Rattle.cells.specs.Seen.{Seen, task_seen}
+use Rattle.speculation.specs.declared.Ending.{Ending}
+use Rattle.speculation.specs.declared.Ending.TheVariants.{Reached, Met, Full}
+use Rattle.speculation.specs.World.{World, arrivals}
+use Rattle.speculation.specs.Task.{Task, now, looked, IsTask}
+use Rattle.rv_run.specs.declared.Flow.{Flow}
+use Rattle.rv_run.specs.declared.Flow.TheVariants.{Next}
+use Rattle.rv_run.specs.Calls.{step}
+use Rattle.rv_step.specs.Outcome.{step_outcome}
+use Rattle.memory.specs.declared.Memory.{Ghosts}
+use Rattle.dist_image.specs.Image.{Distilled, anchor_at}
+use Rattle.image_world.specs.World.{world}
+use Rattle.layers.specs.Layered.{seen_of, begun, laid}
+use Rattle.slave.specs.declared.did.SlaveDid.{SlaveDid}
+use Rattle.slave.specs.declared.did.SlaveDid.TheVariants.{Stepped, Done}
+use Rattle.slave.specs.declared.task.Task.{Task as CodeTask}
+
+-- `count` anchors were to come to at the start, and `left` of them still are
+pub record Shown : Type 0 where
+  pub number : ℕ
+  pub seen : Seen
+  pub pc : ℕ
+  pub count : ℕ
+  pub left : ℕ
+  pub steps : ℕ
+  pub ending : Option Ending
+
+-- `at` gives the bytes of the task's memory
+abbrev pub shown : {M : Type 0} {d : Ghosts M} → (M → ℕ → ℕ) → CodeTask M d → Shown
+shown at t = record { number = t.number; seen = seen_of at t.view; pc = t.pc; count = t.count; left = t.left; steps = t.steps; ending = t.ending }
+
+-- a task that has only begun, where the cells have these values
+abbrev pub fresh : ℕ → ℕ → (Cell → ℕ) → Shown
+fresh number count base = record { number = number; seen = begun base; pc = base Pc; count = count; left = count; steps = 0; ending = None }
+
+-- what an event did, by the ending after it
+abbrev pub did_of : Option Ending → SlaveDid
+did_of None = Stepped
+did_of (Some e) = Done e
+
+-- where a step goes on, if it does
+abbrev pub next_of : Flow → Option ℕ
+next_of (Next to) = Some to
+next_of _ = None
+
+abbrev pub ending_after : ℕ → ℕ → ℕ → Option Ending
+ending_after left steps limit = cond (nat_eq left 0) (Some Reached) (cond (nat_eq steps limit) (Some Full) None)
+
+-- how many anchors are left once the pc is this one
+abbrev pub left_at : Distilled → Shown → ℕ → ℕ
+left_at image k pc = k.left - from_bool (is_some (anchor_at image pc))
+
+-- after a step that went on at this pc; or, where no step was taken, done
+abbrev pub went : Distilled → Shown → Option ℕ → Shown
+went image k (Some to) = record k { pc = to; left = left_at image k to; steps = k.steps + 1; ending = ending_after (left_at image k to) (k.steps + 1) image.limit }
+went image k None = record k { ending = Some Met }
+
+-- one event of a running task: the instruction at its pc is done on its view
+unfoldable pub advanced : Distilled → Shown → Shown
+advanced image k =
+    let done = step_outcome k.pc k.seen in
+    went image (record k { seen = done.seen }) (next_of done.flow)
+
+-- the task of the definition: its checkpoint is what the view began with
+abbrev pub modelled : Shown → Task
+modelled k = record { number = k.number; base = from_cells k.seen.base; count = k.count; steps = k.steps; ending = k.ending }
+
+-- a task of a world: it shows what its steps from its checkpoint give
+pub record Shows (w : World) (k : Shown) : Type 0 where
+  pub seen : k.seen ≡ task_seen w.machine (from_cells k.seen.base) k.steps (looked k.ending k.steps)
+  pub pc : k.pc ≡ (now w (modelled k)).pc
+  pub left : k.left + arrivals w (from_cells k.seen.base) k.steps ≡ k.count
+  pub aligned : k.pc % 4 ≡ 0
+  pub task : IsTask w (modelled k)
+
+-- a task of an image; where the run began and how many slaves there are play no part
+abbrev pub IsTaskOf : Distilled → Shown → Type 0
+IsTaskOf image k = (start : State) (slaves : ℕ) → Shows (world start image slaves) k
+
+-- the state holds the recorded values
+abbrev pub Agrees : Seen → State → Type 0
+Agrees seen s = (x : Cell) (v : ℕ) → seen.recorded x ≡ Some v → value s.arch x ≡ v
+
+-- A state that hasn't ended and agrees with the record gives, after as many steps of the run as the task has taken, itself
+-- with the task's writes and pc
+abbrev pub FollowsRun : Shown → Type 0
+FollowsRun k = (s : State) → is_over s ≡ false → Agrees k.seen s → iterate step s k.steps ≡ record s { arch = from_cells (laid k.pc k.seen (value s.arch)) }

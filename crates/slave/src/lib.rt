@@ -1,0 +1,25 @@
+//! Tasks: the program itself, run from a checkpoint on a view that records what it took from there.
+//!
+//! A task begins at an anchor of an image with the registers and memory that the master predicts.
+//! It takes one step at each event, and is done where it comes to its last anchor, meets a call or
+//! an end, or has taken as many steps as the image allows. Where the committed state holds what the
+//! task recorded, its writes and its pc are those of the run itself.
+#![tactic(auto)]
+
+ghost use Rattle.slave.specs.Laws.{CommitsApply, RecordsAgree};
+
+mod did;
+mod task;
+#[cfg(test)]
+mod tests;
+
+pub use did::SlaveDid;
+pub use speculation::Ending;
+pub use task::Task;
+
+/// What [`TaskView::apply`](layers::TaskView::apply) gives of a state and what
+/// [`TaskView::compare`](layers::TaskView::compare) tells of it are what a commit does and asks for.
+pub fn commits()
+    ensures applied { CommitsApply }
+    ensures recorded { RecordsAgree }
+{}
