@@ -1,0 +1,10 @@
+pub mod Masks
+pub mod Words
+pub mod Passed
+pub mod Goes
+pub mod Found
+pub mod Shows
+pub mod Meeting
+pub mod Sets
+pub mod Safe
+pub mod Exit

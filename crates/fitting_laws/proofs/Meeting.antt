@@ -1,0 +1,125 @@
+-- A run that meets the list of an image that fits has what the laws against squashes ask of it.
+use Rattle.std.proofs.Common.{◌≡◌, ℕ, ◌+◌, ◌<◌, ◌≤◌, zero, suc, Bool, true, false, ◌&&◌, cond, List, Some, refl, sym, ap, ◌∙◌, subst, arith, inl, inr, ⊎_elim, ◌⊎◌, true≢false, eqb-true}
+use Rattle.std.specs.Prelude.{nat_eq}
+use Rattle.std.proofs.lemmas.Bool.{and_parts, eqb-false, not-false}
+use Rattle.rv_word.specs.Meaning.{meaning}
+use Rattle.cells.specs.declared.Cell.TheVariants.{Byte}
+use Rattle.cells.specs.Cells.{value}
+use Rattle.cells.specs.Run.{State, is_over, printed}
+use Rattle.squash_laws.specs.Fits as seen
+use Rattle.rv_run.specs.Effect.{effect_at}
+use Rattle.rv_run.specs.Machine.{machine, word_at, is_next, pc_after, moved}
+use Rattle.rv_run.specs.Calls.{call, writes}
+use Rattle.dist_image.specs.Image.{Premise, Cut, Targets, Dead, Code, Within, Span, Distilled}
+use Rattle.image_world.specs.World.{count_of}
+use Rattle.fitting.specs.Claims.{among, claims, leads}
+use Rattle.fitting.specs.Fits.{Fits, IsListed, IsAimed, is_analysed}
+use Rattle.fitting.specs.Fails.{state_at, arch_at, pc_at, fetched_at, program, Fails, Meets, IsLatestWriter, IsArrival, IsStop, IsSpanned, IsRegisterJump, arrivals_after, is_store}
+use Rattle.fitting_laws.specs.Setting.{setting}
+use Rattle.fitting_laws.proofs.Found.{at_note, cut_listed, targets_listed, dead_listed}
+use Rattle.fitting_laws.proofs.Goes.{goes_on}
+
+module _ (start : State) (image : Distilled) (slaves : ℕ) (fits : Fits (program start) image) (n : ℕ) (meets : Meets start image n) where
+  -- no listed assumption fails
+  fails : (x : Premise) → IsListed image.assumptions x → (i : ℕ) → i < n → is_over (state_at start i) ≡ false → Fails start image x i → ⊥
+  fails x listed i l going f = meets i l going listed.0 x listed.1 f
+
+  code : (i : ℕ) → i < n → is_over (state_at start i) ≡ false → is_analysed image (pc_at start i) ≡ true → word_at (arch_at start i) ≡ program start (pc_at start i)
+  code i l going has = go (nat_eq (word_at (arch_at start i)) (program start (pc_at start i))) refl
+    where
+      go : (b : Bool) → nat_eq (word_at (arch_at start i)) (program start (pc_at start i)) ≡ b → word_at (arch_at start i) ≡ program start (pc_at start i)
+      go true e = eqb-true (word_at (arch_at start i)) (program start (pc_at start i)) e
+      go false e = absurd (fails Code fits.listed.0 i l going (has, eqb-false (word_at (arch_at start i)) (program start (pc_at start i)) e))
+
+  within : (i : ℕ) → i < n → is_over (state_at start i) ≡ false → is_analysed image (pc_at start i) ≡ true → machine.stops (arch_at start i) ≡ false → is_analysed image (pc_at start (suc i)) ≡ true
+  within i l going has quiet = go (is_analysed image (pc_at start (suc i))) refl
+    where
+      go : (b : Bool) → is_analysed image (pc_at start (suc i)) ≡ b → b ≡ true
+      go true e = refl
+      go false e = absurd (fails Within fits.listed.1 i l going (has, quiet, e))
+
+  moved_pc : (i : ℕ) → (machine.move (arch_at start i)).pc ≡ pc_after (pc_at start i) (effect_at (fetched_at start i) (pc_at start i) (value (arch_at start i))).flow
+  unfolding moved
+  moved_pc i = refl
+
+  -- where the run goes on
+  next_at : (i : ℕ) → is_over (state_at start i) ≡ false → machine.stops (arch_at start i) ≡ false
+      → pc_at start (suc i) ≡ pc_after (pc_at start i) (effect_at (fetched_at start i) (pc_at start i) (value (arch_at start i))).flow
+  next_at i going quiet = go (is_over (state_at start i)) (machine.stops (arch_at start i)) going quiet ∙ moved_pc i
+    where
+      go : (b c : Bool) → b ≡ false → c ≡ false
+          → (cond b (state_at start i) (cond c (call (state_at start i)) (record { arch = machine.move (arch_at start i); env = printed (state_at start i).env (machine.says (arch_at start i)) }))).arch.pc ≡ (machine.move (arch_at start i)).pc
+      go true c e f = absurd (true≢false e)
+      go false true e f = absurd (true≢false f)
+      go false false e f = refl
+
+  follows : (i : ℕ) → i < n → is_over (state_at start i) ≡ false → is_analysed image (pc_at start i) ≡ true → machine.stops (arch_at start i) ≡ false
+      → among (leads (claims image) (pc_at start i) (meaning (program start (pc_at start i)))) (pc_at start (suc i)) ≡ true
+  follows i l going has quiet =
+      ap (λ c. among (leads (claims image) (pc_at start i) (meaning c)) (pc_at start (suc i))) (sym (code i l going has))
+      ∙ ap (among (leads (claims image) (pc_at start i) (fetched_at start i))) (next_at i going quiet)
+      ∙ goes_on (claims image) (arch_at start i) (fetched_at start i)
+      (not-false (is_next (effect_at (fetched_at start i) (pc_at start i) (value (arch_at start i))).flow) quiet)
+      (λ taken e went. fails (Cut (pc_at start i) taken) (cut_listed image (pc_at start i) taken e) i l going (refl, quiet, went))
+      (λ to e jumps. sym (ap (among to) (next_at i going quiet)) ∙ targeted to e jumps (among to (pc_at start (suc i))) refl)
+      (subst (λ c. IsAimed (claims image) (pc_at start i) (meaning c)) (sym (code i l going has)) (aimed (pc_at start i) has))
+    where
+      aimed : (pc : ℕ) → is_analysed image pc ≡ true → IsAimed (claims image) pc (meaning (program start pc))
+      aimed pc has = at_note image (λ pc. IsAimed (claims image) pc (meaning (program start pc))) (λ k x at own. fits.aimed k x at) pc has
+
+      targeted : (to : List ℕ) → (claims image).targets (pc_at start i) ≡ Some to → IsRegisterJump (fetched_at start i) → (b : Bool) → among to (pc_at start (suc i)) ≡ b → b ≡ true
+      targeted to e jumps true f = refl
+      targeted to e jumps false f = absurd (fails (Targets (pc_at start i) to) (targets_listed image (pc_at start i) to e) i l going (refl, quiet, jumps, f))
+
+  -- a stale byte has a latest writer, a store that the list calls dead
+  Wrote : ℕ → ℕ → Type 0
+  Wrote i a = (k : ℕ) × IsLatestWriter start i a k × (((claims image).dead (pc_at start k) && is_store (fetched_at start k)) ≡ true)
+
+  stale_from : (i a : ℕ) → seen.stale (setting start image slaves n) i a ≡ true → Wrote i a
+  unfolding Wrote
+  stale_from zero a e = absurd (true≢false (sym e))
+  stale_from (suc i) a e = go (writes (state_at start i) (Byte a)) refl (stale_from i a) e
+    where
+      below : (h i : ℕ) → h < suc i → (h ≡ i) ⊎ (h < i)
+      below h i l = grind arith
+
+      go : (b : Bool) → writes (state_at start i) (Byte a) ≡ b → (seen.stale (setting start image slaves n) i a ≡ true → Wrote i a)
+          → cond b ((claims image).dead (pc_at start i) && is_store (fetched_at start i)) (seen.stale (setting start image slaves n) i a) ≡ true → Wrote (suc i) a
+      go true f rest e = (i, record { before = omega arith; wrote = f; last = λ h u v. absurd (omega (arith, u, v)) }, e)
+      go false f rest e =
+          let r = rest e in (
+            r.0,
+            record {
+              before = let b = r.1.before in omega (arith, b);
+              wrote = r.1.wrote;
+              last = λ h u v. ⊎_elim (λ (s : h ≡ i). ap (λ k. writes (state_at start k) (Byte a)) s ∙ f) (λ (s : h < i). r.1.last h u s) (below h i v);
+            },
+            r.2,
+          )
+
+  fresh : (i a : ℕ) → i < n → is_over (state_at start i) ≡ false → machine.reads (arch_at start i) (Byte a) ≡ true → seen.stale (setting start image slaves n) i a ≡ false
+  unfolding Wrote
+  fresh i a l going reads = go (seen.stale (setting start image slaves n) i a) refl
+    where
+      go : (b : Bool) → seen.stale (setting start image slaves n) i a ≡ b → b ≡ false
+      go false e = refl
+      go true e =
+          let r = stale_from i a e in
+          let parts = and_parts ((claims image).dead (pc_at start r.0)) (is_store (fetched_at start r.0)) r.2 in
+          absurd (fails (Dead (pc_at start r.0)) (dead_listed image (pc_at start r.0) parts.0) i l going (a, r.0, reads, r.1, refl, parts.1))
+
+  span : (i c : ℕ) → i < n → is_over (state_at start i) ≡ false → count_of image (pc_at start i) ≡ Some c
+      → (((t : ℕ) × (t ≤ image.limit) × (c ≤ arrivals_after start image i t)) ⊎ ((t : ℕ) × (t < image.limit) × (machine.stops (arch_at start (i + t)) ≡ true)) → ⊥) → ⊥
+  span i c l going anchor neither =
+      fails Span fits.listed.2 i l going (
+        c,
+        anchor,
+        λ (either : IsSpanned start image i c).
+            neither (⊎_elim
+            (λ (y : (t : ℕ) × IsArrival start image i c t). inl (y.0, y.1.near, let number = y.1.number in omega (arith, number)))
+            (λ (y : (t : ℕ) × IsStop start image i t). inr (y.0, y.1.near, y.1.stops))
+            either),
+      )
+
+  pub meets_shown : seen.Meets (setting start image slaves n)
+  meets_shown = record { code = code; within = within; follows = follows; fresh = fresh; span = span }
