@@ -1,0 +1,4 @@
+pub mod Profile
+pub mod Keyed
+pub mod Bytes
+pub mod Reading

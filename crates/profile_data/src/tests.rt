@@ -1,0 +1,255 @@
+//! Profiles as bytes, both ways, and each refusal. Numbers that follow a magic number stand for a file
+//! of them, the lowest byte of each first.
+
+use super::*;
+use indexmap::IndexMap;
+use std::alloc::{AllocError, Global};
+use std::test::Fail;
+
+const MAGIC: u32 = 0x4650_534D;
+
+/// The greatest number of four bytes.
+const ALL: u32 = u32::MAX;
+
+/// The profile of a loop of ten turns with a comparison that is never true: 45 steps, with which the
+/// run ends, and nine rows.
+static NEVER_TRUE: [u32; 69] = [
+    MAGIC, 1, 45, 0, 1, 9, //
+    0x1_0000, 0, 1, 0, 0, 0, 0, //
+    0x1_0004, 0, 10, 0, 0, 0, 0, //
+    0x1_0008, 0, 10, 0, 0, 0, 0, //
+    0x1_000C, 0, 10, 0, 0, 0, 0, //
+    0x1_0010, 0, 10, 0, 9, 0, 0, //
+    0x1_0014, 0, 1, 0, 0, 0, 0, //
+    0x1_001C, 0, 1, 0, 0, 0, 0, //
+    0x1_0020, 0, 1, 0, 0, 0, 0, //
+    0x1_0024, 0, 1, 0, 0, 0, 0,
+];
+
+/// A run of three steps that goes on: a store whose bytes are read, and an indirect jump to two
+/// addresses that was changed.
+static TWO_TARGETS: [u32; 22] = [
+    MAGIC,
+    1,
+    3,
+    0,
+    0,
+    2, //
+    8,
+    1,
+    1,
+    0,
+    0,
+    0,
+    0, //
+    4,
+    2,
+    2,
+    0,
+    0,
+    0,
+    2,
+    0,
+    0xFFFF_FFFC,
+];
+
+/// The bytes of numbers, the lowest byte of each first.
+fn bytes_of(alloc: Global, numbers: &[u32]) -> Result<Vec<u8>, AllocError> {
+    let mut bytes = Vec::new(alloc);
+    for number in numbers {
+        bytes.extend_from_slice(&number.to_le_bytes())?;
+    }
+    Ok(bytes)
+}
+
+/// How a file of these numbers is refused.
+fn refusal(alloc: Global, numbers: &[u32]) -> Result<Option<ProfileErr>, AllocError> {
+    let bytes = bytes_of(alloc, numbers)?;
+    Ok(read_profile(alloc, &bytes).err())
+}
+
+#[test]
+fn reads_and_writes_nine_rows(rt: HostRuntime) -> Result<(), Fail> {
+    let bytes = bytes_of(rt.alloc(), &NEVER_TRUE)?;
+    let profile = read_profile(rt.alloc(), &bytes)?;
+    assert_eq!(rt;
+        (profile.steps(), profile.ended(), profile.len()),
+        (45, true, 9)
+    );
+    let counts = profile.row(0x1_0010).map(|row| (row.executed, row.taken));
+    assert_eq!(rt; counts, Some((10, 9)));
+    assert_eq!(rt; profile.row(0x1_0018).map(|row| row.pc), None);
+    assert_eq!(rt; profile.at(6).map(|row| row.pc), Some(0x1_001C));
+    assert_eq!(rt; profile.at(9).map(|row| row.pc), None);
+    let written = write_profile(rt.alloc(), &profile)?;
+    assert_eq!(rt; written.as_slice(), bytes.as_slice());
+    Ok(())
+}
+
+#[test]
+fn reads_and_writes_targets(rt: HostRuntime) -> Result<(), Fail> {
+    let bytes = bytes_of(rt.alloc(), &TWO_TARGETS)?;
+    let profile = read_profile(rt.alloc(), &bytes)?;
+    let marks = profile.at(0).map(|row| (row.read, row.changed));
+    assert_eq!(rt; marks, Some((true, false)));
+    let marks = profile.at(1).map(|row| (row.read, row.changed));
+    assert_eq!(rt; marks, Some((false, true)));
+    let last = profile.row(4).map(|row| row.targets.last().copied());
+    assert_eq!(rt; last, Some(Some(0xFFFF_FFFC)));
+    let written = write_profile(rt.alloc(), &profile)?;
+    assert_eq!(rt; written.as_slice(), bytes.as_slice());
+    Ok(())
+}
+
+#[test]
+fn makes_a_profile_without_rows(rt: HostRuntime) -> Result<(), Fail> {
+    let profile = Profile::new(0, false, IndexMap::new(rt.alloc()));
+    assert_eq!(rt; profile.len(), 0);
+    let written = write_profile(rt.alloc(), &profile)?;
+    let want = bytes_of(rt.alloc(), &[MAGIC, 1, 0, 0, 0, 0])?;
+    assert_eq!(rt; written.as_slice(), want.as_slice());
+    let read = read_profile(rt.alloc(), &written)?;
+    assert_eq!(rt; (read.steps(), read.ended(), read.len()), (0, false, 0));
+    Ok(())
+}
+
+#[test]
+fn a_prefix_ends_early(rt: HostRuntime) -> Result<(), Fail> {
+    let bytes = bytes_of(rt.alloc(), &TWO_TARGETS)?;
+    for length in 0..bytes.len() {
+        let answer = read_profile(rt.alloc(), &bytes[..length]);
+        assert_eq!(rt; answer.err(), Some(ProfileErr::Short), "{length} bytes");
+    }
+    let bytes = bytes_of(rt.alloc(), &NEVER_TRUE)?;
+    for length in 0..bytes.len() {
+        let answer = read_profile(rt.alloc(), &bytes[..length]);
+        assert_eq!(rt; answer.err(), Some(ProfileErr::Short), "{length} bytes");
+    }
+    Ok(())
+}
+
+#[test]
+fn refuses_headers(rt: HostRuntime) -> Result<(), Fail> {
+    let cases: [(&[u32], ProfileErr); 10] = [
+        (&[MAGIC + 1, 2, 0, 0, 2], ProfileErr::Short),
+        (&[MAGIC + 1, 2, 0, 0, 2, ALL], ProfileErr::Magic),
+        (&[MAGIC, 2, 0, 0, 2, ALL], ProfileErr::Version),
+        (&[MAGIC, 0, 0, 0, 0, 0], ProfileErr::Version),
+        (&[MAGIC, 1, 0, 0, 2, ALL], ProfileErr::Mark),
+        (&[MAGIC, 1, 0, 0, 0, 524_289], ProfileErr::TooMany),
+        (&[MAGIC, 1, 0, 0, 0, ALL], ProfileErr::TooMany),
+        (&[MAGIC, 1, 0, 0, 0, 524_288], ProfileErr::Short),
+        (&[MAGIC, 1, 1, 0, 0, 0], ProfileErr::Sum),
+        (&[MAGIC, 1, 0, 0, 1, 0, 0], ProfileErr::Long),
+    ];
+    for (numbers, want) in cases {
+        assert_eq!(rt; refusal(rt.alloc(), numbers)?, Some(want), "{numbers:?}");
+    }
+    Ok(())
+}
+
+/// How a file of one row of 9 steps is refused, with its numbers from its address on.
+fn row_refusal(alloc: Global, row: &[u32]) -> Result<Option<ProfileErr>, AllocError> {
+    let mut bytes = bytes_of(alloc, &[MAGIC, 1, 9, 0, 0, 1])?;
+    for number in row {
+        bytes.extend_from_slice(&number.to_le_bytes())?;
+    }
+    Ok(read_profile(alloc, &bytes).err())
+}
+
+#[test]
+fn refuses_rows(rt: HostRuntime) -> Result<(), Fail> {
+    let cases: [(&[u32], ProfileErr); 14] = [
+        (&[3, 4, 0, 0, 1, 0], ProfileErr::Short),
+        (&[3, 4, 0, 0, 1, 0, ALL], ProfileErr::Kind(0)),
+        (&[4, ALL, 9, 0, 0, 0, 0], ProfileErr::Kind(0)),
+        (&[3, 3, 9, 0, 0, 0, ALL], ProfileErr::Range(0)),
+        (&[4, 0, 0, 0, 0, 0, ALL], ProfileErr::Range(0)),
+        (&[4, 0, 9, 0, 10, 0, 0], ProfileErr::Range(0)),
+        (&[4, 0, 9, 0, 0, 1, 0], ProfileErr::Range(0)),
+        (&[4, 0, 9, 0, 9, 0, 1_048_577], ProfileErr::TooMany),
+        (&[4, 0, 9, 0, 9, 0, ALL], ProfileErr::TooMany),
+        (&[4, 0, 9, 0, 9, 0, 1_048_576], ProfileErr::Short),
+        (&[4, 0, 9, 0, 9, 0, 2, 3], ProfileErr::Short),
+        (&[4, 0, 9, 0, 9, 0, 2, 8, 6], ProfileErr::Range(0)),
+        (&[4, 0, 9, 0, 9, 0, 2, 8, 4], ProfileErr::Order(0)),
+        (&[4, 0, 9, 0, 9, 0, 2, 8, 8], ProfileErr::Order(0)),
+    ];
+    for (row, want) in cases {
+        assert_eq!(rt; row_refusal(rt.alloc(), row)?, Some(want), "{row:?}");
+    }
+    Ok(())
+}
+
+#[test]
+fn refuses_what_comes_after_a_row(rt: HostRuntime) -> Result<(), Fail> {
+    let cases: [(&[u32], Option<ProfileErr>); 5] = [
+        (&[4, 3, 9, 0, 9, 0, 0], None),
+        (&[4, 0, 9, 0, 9, 0, 0, 0], Some(ProfileErr::Long)),
+        (&[4, 0, 8, 0, 8, 0, 0], Some(ProfileErr::Sum)),
+        (&[4, 0, 8, 0, 8, 0, 0, 0], Some(ProfileErr::Sum)),
+        (&[4, 0, 9, 1, 8, 0, 0], Some(ProfileErr::Sum)),
+    ];
+    for (row, want) in cases {
+        assert_eq!(rt; row_refusal(rt.alloc(), row)?, want, "{row:?}");
+    }
+    Ok(())
+}
+
+/// How a file of two rows of 2 ^ 64 - 1 steps is refused, with the numbers of the second from its
+/// address on. The first row has the address 4, no target, and so many steps.
+fn second_refusal(
+    alloc: Global,
+    executed: [u32; 2],
+    row: &[u32],
+) -> Result<Option<ProfileErr>, AllocError> {
+    let [low, high] = executed;
+    let mut bytes = bytes_of(alloc, &[MAGIC, 1, ALL, ALL, 0, 2])?;
+    for number in &[4, 0, low, high, 0, 0, 0] {
+        bytes.extend_from_slice(&number.to_le_bytes())?;
+    }
+    for number in row {
+        bytes.extend_from_slice(&number.to_le_bytes())?;
+    }
+    Ok(read_profile(alloc, &bytes).err())
+}
+
+#[test]
+fn refuses_second_rows(rt: HostRuntime) -> Result<(), Fail> {
+    let most = [ALL, ALL];
+    let cases: [([u32; 2], &[u32], Option<ProfileErr>); 7] = [
+        ([ALL - 1, ALL], &[0, 0, 1, 0, 0, 0, 0], None),
+        (most, &[0, 0, 1, 0, 0, 0, 0], Some(ProfileErr::Sum)),
+        (most, &[0, 0, ALL, ALL, 0, 0, 0], Some(ProfileErr::Sum)),
+        (most, &[0, 0, ALL, ALL, 0, 0, 0, 0], Some(ProfileErr::Sum)),
+        (most, &[4, 4, 1, 0, 0, 0, 0], Some(ProfileErr::Kind(1))),
+        (most, &[4, 0, 0, 0, 0, 0, 0], Some(ProfileErr::Range(1))),
+        (most, &[4, 0, 1, 0, 0, 0, ALL], Some(ProfileErr::Twice(1))),
+    ];
+    for (executed, row, want) in cases {
+        let answer = second_refusal(rt.alloc(), executed, row)?;
+        assert_eq!(rt; answer, want, "{row:?}");
+    }
+    Ok(())
+}
+
+#[test]
+fn targets_are_counted_over_all_rows(rt: HostRuntime) -> Result<(), Fail> {
+    let mut bytes = bytes_of(rt.alloc(), &[MAGIC, 1, 2, 0, 0, 2])?;
+    for number in &[4, 0, 1, 0, 0, 0, 1, 8_u32] {
+        bytes.extend_from_slice(&number.to_le_bytes())?;
+    }
+    for number in &[8, 0, 1, 0, 0, 0, 1_048_576_u32] {
+        bytes.extend_from_slice(&number.to_le_bytes())?;
+    }
+    let answer = read_profile(rt.alloc(), &bytes);
+    assert_eq!(rt; answer.err(), Some(ProfileErr::TooMany));
+    Ok(())
+}
+
+#[test]
+fn errors_have_texts(rt: HostRuntime) -> Result<(), Fail> {
+    let text = format!(in rt.alloc(); "{}", ProfileErr::Twice(3))?;
+    assert_eq!(rt; text.as_str(), "row 3 has the address of an earlier row");
+    Ok(())
+}
