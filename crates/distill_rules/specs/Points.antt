@@ -1,0 +1,43 @@
+-- What the rounds see of an analysed instruction.
+use Rattle.std.specs.Prelude.{ℕ, Bool, List, map, Option, is_some, nat_eq, if◌then◌else◌}
+use Rattle.std.specs.Map.{lookup}
+use Rattle.rv_word.specs.declared.inst.Inst.{Inst}
+use Rattle.rv_word.specs.declared.inst.Inst.TheVariants.{Jal, Jalr, Branch, Store, Ecall, Ebreak, Illegal}
+use Rattle.rv_word.specs.Meaning.{meaning}
+use Rattle.rv_word.specs.Masks.{reads, writes}
+use Rattle.fitting.specs.Claims.{among}
+use Rattle.distill_rules.specs.declared.Fate.{Fate}
+use Rattle.distill_rules.specs.declared.Fate.TheVariants.{Stays, Goes, AsNeeded}
+use Rattle.distill_rules.specs.Cuts.{Cuts}
+use Rattle.distill_rules.specs.Flow.{Site, Graph}
+use Rattle.distill_rules.specs.Rounds.{Point}
+
+-- jumps, calls, EBREAK and illegal words stay, and so do a branch that is not cut and a store that is not dead
+abbrev pub fate_of : Option Bool → Bool → Inst → Fate
+fate_of cut dead (Jal rd off) = Stays
+fate_of cut dead (Jalr rd rs1 off) = Stays
+fate_of cut dead (Branch test rs1 rs2 off) = if is_some cut then Goes else Stays
+fate_of cut dead (Store kind rs1 rs2 off) = if dead then Goes else Stays
+fate_of cut dead Ecall = Stays
+fate_of cut dead Ebreak = Stays
+fate_of cut dead (Illegal word) = Stays
+fate_of cut dead _ = AsNeeded
+
+-- by its side that is cut, and whether it is dead and an anchor
+abbrev pub point_by : Option Bool → Bool → Bool → Site → Point
+point_by cut dead is_anchor s =
+    record {
+      pc = s.pc;
+      next = s.next;
+      reads = reads (meaning s.word);
+      asks = reads (meaning s.word);
+      writes = writes (meaning s.word);
+      fate = fate_of cut dead (meaning s.word);
+      is_anchor = is_anchor;
+    }
+
+abbrev pub point : Cuts → List ℕ → Site → Point
+point c anchors s = point_by (lookup (nat_eq s.pc) c.cut) (among c.dead s.pc) (among anchors s.pc) s
+
+abbrev pub points : Cuts → List ℕ → Graph → List Point
+points c anchors g = map (point c anchors) g.spots
