@@ -1,0 +1,15 @@
+-- Profiles by running the definitions.
+use Rattle.std.proofs.Common.{refl}
+use Rattle.rv_run.specs.Calls.{call, read}
+use Rattle.rv_run.specs.Machine.{moved}
+use Rattle.cells.specs.Seen.{given_values}
+use Rattle.profile_laws.specs.Tally.{places, kept}
+use Rattle.profile_laws.specs.Rows.{RewritingRow, NeverTrueRow}
+
+pub rewriting_row : RewritingRow
+unfolding call read moved given_values places kept
+rewriting_row = record { whole = refl }
+
+pub never_true_row : NeverTrueRow
+unfolding call read moved given_values places kept
+never_true_row = record { whole = refl }

@@ -1,0 +1,29 @@
+-- Worked rows: the profiles of small programs.
+use Rattle.std.specs.Prelude.{◌≡◌, ℕ, true, false, [], ◌∷◌}
+use Rattle.rv_run.specs.Start.{start}
+use Rattle.profile_data.specs.Profile.{Tally}
+use Rattle.fitting.specs.Rows.{never_true, rewriting}
+use Rattle.profile_laws.specs.Tally.{profile_of}
+
+abbrev pub row : ℕ → ℕ → ℕ → Tally
+row pc executed taken = record { pc = pc; executed = executed; taken = taken; read = false; changed = false; targets = [] }
+
+-- a loop of ten turns with a comparison that never holds
+pub record NeverTrueRow : Type 0 where
+  pub whole : profile_of (start never_true []) 45 ≡ record {
+    steps = 45;
+    ended = true;
+    rows =
+        row 0x00010000 1 0 ∷ row 0x00010004 10 0 ∷ row 0x00010008 10 0 ∷ row 0x0001000c 10 0 ∷ row 0x00010010 10 9
+        ∷ row 0x00010014 1 0 ∷ row 0x0001001c 1 0 ∷ row 0x00010020 1 0 ∷ row 0x00010024 1 0 ∷ [];
+  }
+
+-- a program that replaces one of its own words: what was stored is fetched
+pub record RewritingRow : Type 0 where
+  pub whole : profile_of rewriting 6 ≡ record {
+    steps = 6;
+    ended = true;
+    rows =
+        row 0x00010000 1 0 ∷ row 0x00010004 1 0 ∷ record (row 0x00010008 1 0) { read = true } ∷ row 0x0001000c 1 0
+        ∷ record (row 0x00010010 1 0) { changed = true } ∷ row 0x00010014 1 0 ∷ [];
+  }
