@@ -1,0 +1,4 @@
+pub mod Images
+pub mod Shown
+pub mod Counted
+pub mod Whole

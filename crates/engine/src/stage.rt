@@ -1,0 +1,84 @@
+//! What an engine is made of but for its counts, and an event on it.
+ghost use Rattle.std.specs.Prelude.{◌≡◌, ℕ, ◌+◌, ◌-◌, ◌^◌, ◌<◌, ◌≤◌, Bool, false, length, IfOk, OnOk, OnErr, IsNone};
+
+use dist_image::Image;
+use master::Master;
+use memory::Memory;
+use seq_machine::Machine;
+use slave::Task;
+use speculation::{Effect, Event, Mode};
+use std::alloc::{AllocError, Global};
+use std::collections::VecDeque;
+
+/// The committed machine, the master and the live tasks.
+///
+/// The machine's position is the committed position. The oldest task is in front, and the numbers
+/// of the tasks are consecutive.
+#[derive(Drop)]
+pub(crate) struct Stage<M: Memory> {
+    pub(crate) machine: Machine<M>,
+    pub(crate) image: Image,
+    pub(crate) slaves: u8,
+    pub(crate) mode: Mode,
+    pub(crate) master: Option<Master<M>>,
+    pub(crate) tasks: VecDeque<Task<M>>,
+    /// The number of the next task.
+    pub(crate) next: u64,
+}
+
+impl<M: Memory> Stage<M> {
+    ghost use Rattle.cells.specs.Run.{is_over};
+    ghost use Rattle.speculation.specs.Task.{steps_of};
+    ghost use Rattle.dist_image.specs.Image.{IsImage};
+    ghost use Rattle.engine.specs.Shown.{shown, tasks_modelled, AreTasksOf, Happens, IsCostly, given_up, at_rest};
+
+    /// One event. Nothing happens once the machine has ended.
+    pub(crate) fn happen(&mut self, alloc: Global, e: Event) -> Result<Effect, AllocError>
+        requires image { IsImage self.old.image }
+        requires slaves { 1 ≤ self.old.slaves }
+        requires tasks { ∥ AreTasksOf self.old.image (shown M.at self.old).tasks ∥₁ }
+        requires empty { (debt : Bool) → self.old.mode ≡ Mode.Serial debt → length self.old.tasks.items ≡ 0 }
+        requires position { self.old.machine.position + steps_of (tasks_modelled (shown M.at self.old).tasks) < 2 ^ 64 - 1 }
+        requires next { self.old.next < 2 ^ 64 - 1 }
+        ensures ok { IfOk result (λ effect. Happens self.old.image self.old.slaves e (shown M.at self.old) effect (shown M.at self.new)) }
+        ensures tasks { OnOk result (∥ AreTasksOf self.old.image (shown M.at self.new).tasks ∥₁) }
+        ensures err { OnErr result (shown M.at self.new ≡ shown M.at self.old) }
+        ensures running { OnErr result (is_over (shown M.at self.old).committed ≡ false) }
+        ensures sure { OnErr result (IsCostly self.old.image self.old.slaves e (shown M.at self.old)) }
+        ensures image { self.new.image ≡ self.old.image }
+        ensures slaves { self.new.slaves ≡ self.old.slaves }
+    {
+        if self.machine.end.is_some() {
+            return Ok(Effect::Idle);
+        }
+        match e {
+            Event::Restart => self.restart(alloc),
+            Event::Serial => self.step(alloc),
+            Event::Master => self.drive(alloc),
+            Event::Slave(j) => self.run(alloc, j),
+            Event::Commit => self.commit(alloc),
+        }
+    }
+
+    /// Gives up the master and all tasks.
+    pub(crate) fn give_up(&mut self)
+        ensures shown { shown M.at self.new ≡ given_up (shown M.at self.old) }
+        ensures image { self.new.image ≡ self.old.image }
+        ensures slaves { self.new.slaves ≡ self.old.slaves }
+    {
+        self.mode = Mode::Serial { debt: true };
+        self.master = None;
+        self.tasks.clear();
+    }
+
+    /// Comes to rest once no master runs and no task lives.
+    pub(crate) fn settle(&mut self)
+        ensures shown { shown M.at self.new ≡ at_rest (shown M.at self.old) }
+        ensures image { self.new.image ≡ self.old.image }
+        ensures slaves { self.new.slaves ≡ self.old.slaves }
+    {
+        if self.master.is_none() && self.tasks.is_empty() {
+            self.mode = Mode::Serial { debt: true };
+        }
+    }
+}
