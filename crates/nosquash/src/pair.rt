@@ -1,0 +1,88 @@
+//! The pair of an engine and what its tasks and master are known to track.
+ghost use Rattle.engine.specs.Whole.{start_of, image_of, slaves_of, model_of};
+ghost use Rattle.fitting_laws.specs.Laws.{TracksRun};
+
+use elf_reader::Program;
+use engine::{Effect, Engine, Event};
+use memory::Memory;
+use std::alloc::{AllocError, Global};
+
+/// An engine whose tasks and master track the sequential run wherever its image fits the program and
+/// the run meets the image's list.
+#[derive(Drop)]
+pub struct Pair<M: Memory> {
+    engine: Engine<M>,
+    ghost tracks: { ∥ TracksRun (start_of M.at engine) (image_of engine) (slaves_of engine) (model_of M.at engine) ∥₁ },
+}
+
+impl<M: Memory> Pair<M> {
+    ghost use Rattle.std.specs.Prelude.{◌≡◌, ℕ, ◌+◌, ◌-◌, ◌^◌, ◌<◌, ◌≤◌, IfOk, OnErr};
+    ghost use Rattle.speculation.specs.World.{seq};
+    ghost use Rattle.speculation.specs.Engine.{happens, fresh};
+    ghost use Rattle.speculation_laws.specs.Told.{Tells};
+    ghost use Rattle.squash_laws.specs.Tracks.{IsSafe};
+    ghost use Rattle.rv_run.specs.Start.{program_word};
+    ghost use Rattle.elf_reader.specs.Executable.{IsProgram};
+    ghost use Rattle.seq_machine.specs.Parts.{loaded, start_of as program_start};
+    ghost use Rattle.fitting.specs.Fits.{Fits};
+    ghost use Rattle.fitting.specs.Fails.{program as words_of, Meets, Reaches};
+    ghost use Rattle.engine.specs.Shown.{MayTake};
+    ghost use Rattle.engine.specs.Whole.{world_of};
+
+    /// A pair of an engine that has had no event, and whose run is that of the program with the
+    /// input that the engine's machine holds. Takes no memory.
+    ///
+    /// The pair doesn't keep the program: its word at a pc is the one that memory holds at the
+    /// start.
+    pub fn new(engine: Engine<M>, program: &Program) -> Pair<M>
+        requires program { IsProgram program.now }
+        requires fresh { model_of M.at engine ≡ fresh (world_of M.at engine) }
+        requires start { start_of M.at engine ≡ program_start program.now (model_of M.at engine).committed.env.input }
+        ensures engine { result.engine ≡ engine }
+        ensures words { (pc : ℕ) → words_of (start_of M.at result.engine) pc ≡ program_word (loaded program.now) pc }
+    {
+        let _ = program;
+        Pair { engine }
+    }
+
+    /// One event of the engine, and what it did. The number of events must be below 2⁶⁴ - 1.
+    ///
+    /// Let the image fit the program, and let the first n steps of the run meet its list. Where the
+    /// task limit past the committed position is at most n, and also where the run ends within n
+    /// steps, the event squashes no task and gives none up with a committed one.
+    ///
+    /// # Errors
+    ///
+    /// Want of memory alone. Nothing has changed then.
+    pub fn event(&mut self, alloc: Global, e: Event) -> Result<Effect, AllocError>
+        requires { (model_of M.at self.old.engine).counts.events < 2 ^ 64 - 1 }
+        // It is the engine's event.
+        ensures ok { IfOk result (λ effect. (effect, model_of M.at self.new.engine) ≡ happens (world_of M.at self.old.engine) (model_of M.at self.old.engine) e) }
+        ensures err { OnErr result (model_of M.at self.new.engine ≡ model_of M.at self.old.engine) }
+        ensures sure { OnErr result (MayTake (happens (world_of M.at self.old.engine) (model_of M.at self.old.engine) e).0) }
+        ensures start { start_of M.at self.new.engine ≡ start_of M.at self.old.engine }
+        ensures image { image_of self.new.engine ≡ image_of self.old.engine }
+        ensures slaves { slaves_of self.new.engine ≡ slaves_of self.old.engine }
+        // What is committed is the sequential run, and what is told is so.
+        ensures sequential { (model_of M.at self.new.engine).committed ≡ seq (world_of M.at self.new.engine) (model_of M.at self.new.engine).position }
+        ensures rises { (model_of M.at self.old.engine).position ≤ (model_of M.at self.new.engine).position }
+        ensures told { IfOk result (λ effect. Tells (world_of M.at self.old.engine) (model_of M.at self.old.engine) e effect (model_of M.at self.new.engine)) }
+        // With an image that fits and a list that is met, nothing is squashed or given up.
+        ensures safe { let start = start_of M.at self.old.engine in let image = image_of self.old.engine in
+            IfOk result (λ effect. Fits (words_of start) image → (n : ℕ) → Meets start image n
+            → Reaches start image n (model_of M.at self.old.engine).position → IsSafe effect) }
+        // So where something is, the list is broken before a task limit is past.
+        ensures broken { let start = start_of M.at self.old.engine in let image = image_of self.old.engine in
+            IfOk result (λ effect. (IsSafe effect → ⊥) → Fits (words_of start) image → (n : ℕ) → Meets start image n
+            → n < (model_of M.at self.old.engine).position + image.limit) }
+    {
+        self.engine.event(alloc, e)
+    }
+
+    /// The engine.
+    pub fn engine(&self) -> &Engine<M>
+        ensures { result.now ≡ self.now.engine }
+    {
+        &self.engine
+    }
+}
