@@ -1,0 +1,7 @@
+-- The words so far are written.
+use Rattle.std.proofs.Common.{◌≡◌, ◌++◌, take, map}
+use Rattle.report.specs.Text.{spaced, word_text}
+use Rattle.report.proofs.text.push_words.Given as goal
+
+abbrev pub invariant-loop-word : goal.invariant-loop-word
+invariant-loop-word l = l.out.items ≡ l.fn.out.items ++ spaced (map word_text (take l.word-index l.words))

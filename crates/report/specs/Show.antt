@@ -1,0 +1,62 @@
+-- The text of an image, line by line.
+use Rattle.std.specs.Prelude.{ℕ, ◌+◌, List, [], ◌∷◌, ◌++◌, codes, decimal, map, if◌then◌else◌}
+use Rattle.std.specs.List.{flat_map}
+use Rattle.dist_image.specs.declared.image.Slot.{Slot}
+use Rattle.dist_image.specs.declared.image.Slot.TheVariants.{Exec, Go, Fork}
+use Rattle.dist_image.specs.declared.image.Anchor.{Anchor}
+use Rattle.dist_image.specs.declared.image.Note.{Note}
+use Rattle.dist_image.specs.Image.{Premise, Cut, Targets, Dead, Code, Within, Span, Distilled}
+use Rattle.report.specs.Text.{hex_word, line}
+
+abbrev pub limit_line : ℕ → List ℕ
+limit_line limit = line (codes "limit") (decimal limit ∷ [])
+
+abbrev pub slot_line : ℕ → Slot → List ℕ
+slot_line i (Exec origin word) = line (codes "slot") (decimal i ∷ codes "exec" ∷ hex_word origin ∷ hex_word word ∷ [])
+slot_line i (Go target) = line (codes "slot") (decimal i ∷ codes "go" ∷ hex_word target ∷ [])
+slot_line i (Fork anchor) = line (codes "slot") (decimal i ∷ codes "fork" ∷ decimal anchor ∷ [])
+
+abbrev pub anchor_line : ℕ → Anchor → List ℕ
+anchor_line i a = line (codes "anchor") (decimal i ∷ codes "pc" ∷ hex_word a.pc ∷ codes "slot" ∷ decimal a.slot ∷ codes "count" ∷ decimal a.count ∷ [])
+
+abbrev pub note_line : Note → List ℕ
+note_line n = line (codes "note") (hex_word n.pc ∷ codes "slot" ∷ decimal n.slot ∷ codes "live" ∷ hex_word n.live ∷ codes "need" ∷ hex_word n.need ∷ [])
+
+-- the kind of an assumption
+abbrev pub kind_word : Premise → List ℕ
+kind_word (Cut at taken) = codes "cut"
+kind_word (Targets at to) = codes "targets"
+kind_word (Dead at) = codes "dead"
+kind_word Code = codes "code"
+kind_word Within = codes "within"
+kind_word Span = codes "span"
+
+-- the program counter that it speaks of, if there is one
+abbrev pub place_words : Premise → List (List ℕ)
+place_words (Cut at taken) = hex_word at ∷ []
+place_words (Targets at to) = hex_word at ∷ []
+place_words (Dead at) = hex_word at ∷ []
+place_words _ = []
+
+-- what it says of that: the side that is cut, or the targets
+abbrev pub detail_words : Premise → List (List ℕ)
+detail_words (Cut at taken) = (if taken then codes "taken" else codes "fallen") ∷ []
+detail_words (Targets at to) = map hex_word to
+detail_words _ = []
+
+abbrev pub premise_line : Premise → List ℕ
+premise_line p = line (kind_word p) (place_words p ++ detail_words p)
+
+-- the lines of entries that are numbered from i on
+abbrev pub lines_from : {A : Type 0} → (ℕ → A → List ℕ) → ℕ → List A → List ℕ
+lines_from entry_line i [] = []
+lines_from entry_line i (x ∷ more) = entry_line i x ++ lines_from entry_line (i + 1) more
+
+-- the limit, the slots and the anchors, which are numbered from 0 on, the notes and the assumptions
+abbrev pub image_text : Distilled → List ℕ
+image_text image =
+    limit_line image.limit
+    ++ (lines_from slot_line 0 image.slots
+    ++ (lines_from anchor_line 0 image.anchors
+    ++ (flat_map note_line image.notes
+    ++ flat_map premise_line image.assumptions)))

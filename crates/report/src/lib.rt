@@ -1,0 +1,17 @@
+//! The texts that the product puts: the lines of an image and of what the engine does, and the words
+//! that other lines are made of.
+#![tactic(auto)]
+
+mod effect;
+mod putting;
+mod show;
+mod summary;
+mod text;
+
+pub use effect::put_effect;
+pub use show::put_image;
+pub use summary::{put_summary, summary_bytes};
+pub use text::{Word, push_end, push_line, push_words};
+
+#[cfg(test)]
+mod tests;
