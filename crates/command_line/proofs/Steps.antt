@@ -1,12 +1,12 @@
 -- Options, one after the other.
-use Rattle.std.proofs.Common.{ℕ, ◌≡◌, ◌<◌, ◌-◌, ◌^◌, ◌==◌, ◌&&◌, ◌||◌, ap, sym, subst, refl, arith, Bool, true, false, if◌then◌else◌, List, [], ◌∷◌, length, map, Option, Some, None, option_and_then, IfSome, IsSome, is_some, is_none, codes, lit<}
+use Rattle.std.proofs.Common.{ℕ, ◌≡◌, ◌<◌, ◌≤◌, ◌-◌, ◌^◌, ◌==◌, ◌&&◌, ◌||◌, ap, sym, subst, refl, arith, Bool, true, false, if◌then◌else◌, List, [], ◌∷◌, length, map, Option, Some, None, unwrap_or, option_and_then, IfSome, IsSome, is_some, is_none, codes, lit<}
 use Rattle.std.specs.List.{list_any}
 use Rattle.std.specs.Cmp.Lexicographic.{same_text}
 use Rattle.std.proofs.lemmas.Bool.Decides.{nat_tests}
 use Rattle.command_line.specs.declared.options.Kind.{Kind}
 use Rattle.command_line.specs.Number.{number_of, within, number_within}
-use Rattle.command_line.specs.Options.{same, takes, value_of, may_precede, are_options, IsNumberIfGiven}
-use Rattle.command_line.specs.Command.{run_options}
+use Rattle.command_line.specs.Options.{same, takes, value_of, number_or, may_precede, are_options, IsNumberIfGiven}
+use Rattle.command_line.specs.Command.{run_options, replay_options}
 
 pub list_any-map : {A B : Type 0} (test : B → Bool) (f : A → B) (xs : List A) → list_any test (map f xs) ≡ list_any (λ x. test (f x)) xs
 list_any-map test f [] = refl
@@ -67,3 +67,42 @@ number-given table option least most small numbers words h = go (value_of option
 pub budget-given : (words : List (List ℕ)) → are_options run_options words ≡ true → IsNumberIfGiven (codes "--budget") words
 unfolding takes
 budget-given words h = number-given run_options (codes "--budget") 1 (10 ^ 12) (lit< tt) (λ v e. grind (arith, e)) words h
+
+-- a number that options give is within such a range, as its default is
+pub number-between : (table : List (List ℕ × Kind)) (option : List ℕ) (least most default : ℕ) → least ≤ default → default ≤ most
+    → ((v : List ℕ) → takes table option v ≡ true → is_some (number_within least most v) ≡ true)
+    → (words : List (List ℕ)) → are_options table words ≡ true → (least ≤ number_or default option words) × (number_or default option words ≤ most)
+unfolding number_or
+number-between table option least most default low high numbers words h = go (value_of option words) (takes-given table option words h)
+  where
+    between : (n : Option ℕ) → is_some (option_and_then (within least most) n) ≡ true → (least ≤ unwrap_or n default) × (unwrap_or n default ≤ most)
+    between None e = (low, high)
+    between (Some n) e = (grind (arith, nat_tests), grind (arith, nat_tests))
+
+    go : (o : Option (List ℕ)) → IfSome o (λ v. takes table option v ≡ true)
+        → (least ≤ unwrap_or (option_and_then number_of o) default) × (unwrap_or (option_and_then number_of o) default ≤ most)
+    go None given = (low, high)
+    go (Some v) given = between (number_of v) (numbers v given)
+
+-- from 1 to 10^12
+pub budget-between : (words : List (List ℕ)) → are_options run_options words ≡ true → (1 ≤ number_or (10 ^ 9) (codes "--budget") words) × (number_or (10 ^ 9) (codes "--budget") words ≤ 10 ^ 12)
+unfolding takes
+budget-between words h = number-between run_options (codes "--budget") 1 (10 ^ 12) (10 ^ 9) (omega arith) (omega arith) (λ v e. grind (arith, e)) words h
+
+-- `--slaves` of `run` is a number from 1 to 64
+pub run-slaves-between : (words : List (List ℕ)) → are_options run_options words ≡ true → (1 ≤ number_or 4 (codes "--slaves") words) × (number_or 4 (codes "--slaves") words ≤ 64)
+unfolding takes
+run-slaves-between words h = number-between run_options (codes "--slaves") 1 64 4 (omega arith) (omega arith) (λ v e. grind (arith, e)) words h
+
+pub run-slaves-given : (words : List (List ℕ)) → are_options run_options words ≡ true → IsNumberIfGiven (codes "--slaves") words
+unfolding takes
+run-slaves-given words h = number-given run_options (codes "--slaves") 1 64 (lit< tt) (λ v e. grind (arith, e)) words h
+
+-- `--slaves` of `replay` is a number from 1 to 64
+pub slaves-between : (words : List (List ℕ)) → are_options replay_options words ≡ true → (1 ≤ number_or 4 (codes "--slaves") words) × (number_or 4 (codes "--slaves") words ≤ 64)
+unfolding takes
+slaves-between words h = number-between replay_options (codes "--slaves") 1 64 4 (omega arith) (omega arith) (λ v e. grind (arith, e)) words h
+
+pub slaves-given : (words : List (List ℕ)) → are_options replay_options words ≡ true → IsNumberIfGiven (codes "--slaves") words
+unfolding takes
+slaves-given words h = number-given replay_options (codes "--slaves") 1 64 (lit< tt) (λ v e. grind (arith, e)) words h

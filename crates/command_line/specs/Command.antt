@@ -1,45 +1,115 @@
 -- What the words of the command line ask for. A word is its bytes.
-use Rattle.std.specs.Prelude.{ℕ, ◌^◌, ◌&&◌, if◌then◌else◌, List, [], ◌∷◌, codes, option_map, option_copied, Option, Some, None}
-use Rattle.command_line.specs.declared.Command.{Command as ReadCommand}
-use Rattle.command_line.specs.declared.Command.TheVariants.{Run as ReadRun}
-use Rattle.command_line.specs.declared.Run.{Run as ReadRunCommand}
+use Rattle.std.specs.Prelude.{ℕ, ◌^◌, ◌&&◌, if◌then◌else◌, List, [], ◌∷◌, codes, option_map, option_copied, is_some, is_none, Option, Some, None}
+use Rattle.command_line.specs.declared.commands.Command.{Command as ReadCommand}
+use Rattle.command_line.specs.declared.commands.Command.TheVariants.{Run as ReadRun, Show as ReadShow, Replay as ReadReplay}
+use Rattle.command_line.specs.declared.commands.Run.{Run as ReadRunCommand}
+use Rattle.command_line.specs.declared.commands.Replay.{Replay as ReadReplayCommand}
 use Rattle.command_line.specs.declared.options.Kind.{Kind}
 use Rattle.command_line.specs.declared.options.Kind.TheVariants.{File, Number}
 use Rattle.command_line.specs.Options.{same, is_name, value_of, number_or, are_options}
 
--- `run PROG`: the names of the program and of the input, if there is one, and the number of steps
+-- `run PROG`: the name of the program, the names of the image, of the input and of the report, if there are such, the number of slaves and the number of steps
 pub record RunCommand : Type 0 where
   pub program : List ℕ
+  pub image : Option (List ℕ)
   pub input : Option (List ℕ)
+  pub report : Option (List ℕ)
+  pub slaves : ℕ
   pub budget : ℕ
 
+-- `replay PROG IMAGE EVENTS`: the names of the program, of the image, of the list of events and of the input, if there is one, and the number of slaves
+pub record ReplayCommand : Type 0 where
+  pub program : List ℕ
+  pub image : List ℕ
+  pub events : List ℕ
+  pub input : Option (List ℕ)
+  pub slaves : ℕ
+
+-- a command; `show IMAGE` has the name of the image
 pub data Command : Type 0 where
   Run : RunCommand → Command
+  Show : (image : List ℕ) → Command
+  Replay : ReplayCommand → Command
 
 -- the options of `run`
 abbrev pub run_options : List (List ℕ × Kind)
-run_options = (codes "--input", File) ∷ (codes "--budget", Number 1 (10 ^ 12)) ∷ []
+run_options =
+    (codes "--image", File) ∷ (codes "--input", File) ∷ (codes "--report", File) ∷ (codes "--slaves", Number 1 64) ∷ (codes "--budget", Number 1 (10 ^ 12)) ∷ []
+
+-- a run with options; an image asks for a report
+abbrev pub run_with : List ℕ → List (List ℕ) → Option RunCommand
+run_with program options =
+    if is_some (value_of (codes "--image") options) && is_none (value_of (codes "--report") options)
+    then None
+    else Some (record {
+      program = program;
+      image = value_of (codes "--image") options;
+      input = value_of (codes "--input") options;
+      report = value_of (codes "--report") options;
+      slaves = number_or 4 (codes "--slaves") options;
+      budget = number_or (10 ^ 9) (codes "--budget") options;
+    })
 
 -- what the words after `run` ask for: a name, and then options
 abbrev pub run_of : List (List ℕ) → Option RunCommand
 run_of [] = None
-run_of (program ∷ options) =
-    if is_name program && are_options run_options options
+run_of (program ∷ options) = if is_name program && are_options run_options options then run_with program options else None
+
+-- what the words after `show` ask for: a name, and no options
+abbrev pub show_of : List (List ℕ) → Option Command
+show_of [] = None
+show_of (image ∷ options) = if is_name image && are_options [] options then Some (Show image) else None
+
+-- the options of `replay`
+abbrev pub replay_options : List (List ℕ × Kind)
+replay_options = (codes "--input", File) ∷ (codes "--slaves", Number 1 64) ∷ []
+
+-- what the words after `replay` ask for: three names, and then options
+abbrev pub replay_of : List (List ℕ) → Option ReplayCommand
+replay_of [] = None
+replay_of (program ∷ []) = None
+replay_of (program ∷ image ∷ []) = None
+replay_of (program ∷ image ∷ events ∷ options) =
+    if is_name program && is_name image && is_name events && are_options replay_options options
     then Some (record {
       program = program;
+      image = image;
+      events = events;
       input = value_of (codes "--input") options;
-      budget = number_or (10 ^ 9) (codes "--budget") options;
+      slaves = number_or 4 (codes "--slaves") options;
     })
     else None
 
 -- the command that the words are, or None where they are none
 abbrev pub command_of : List (List ℕ) → Option Command
 command_of [] = None
-command_of (command ∷ words) = if same command (codes "run") then option_map Run (run_of words) else None
+command_of (command ∷ words) =
+    if same command (codes "run") then option_map Run (run_of words)
+    else if same command (codes "show") then show_of words
+    else if same command (codes "replay") then option_map Replay (replay_of words)
+    else None
 
 -- a command that was read, as lists of bytes and numbers
 abbrev pub shown_run : ReadRunCommand → RunCommand
-shown_run run = record { program = run.program.now; input = option_copied run.input; budget = run.budget }
+shown_run run = record {
+  program = run.program.now;
+  image = option_copied run.image;
+  input = option_copied run.input;
+  report = option_copied run.report;
+  slaves = run.slaves;
+  budget = run.budget;
+}
+
+abbrev pub shown_replay : ReadReplayCommand → ReplayCommand
+shown_replay replay = record {
+  program = replay.program.now;
+  image = replay.image.now;
+  events = replay.events.now;
+  input = option_copied replay.input;
+  slaves = replay.slaves;
+}
 
 abbrev pub shown : ReadCommand → Command
 shown (ReadRun run) = Run (shown_run run)
+shown (ReadShow image) = Show image.now
+shown (ReadReplay replay) = Replay (shown_replay replay)

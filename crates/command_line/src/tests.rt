@@ -13,6 +13,12 @@ fn words_of(alloc: Global, texts: &[&str]) -> Result<Vec<String>, AllocError> {
     Ok(words)
 }
 
+/// Whether the words are this run.
+fn is_run(alloc: Global, texts: &[&str], want: &Run<'_>) -> Result<bool, AllocError> {
+    let words = words_of(alloc, texts)?;
+    Ok(read_command(&words) == Some(Command::Run(*want)))
+}
+
 #[test]
 fn reads_commands(rt: HostRuntime) -> Result<(), Fail> {
     let cases: [(&[&str], &str, Option<&str>, u64); 9] = [
@@ -52,16 +58,96 @@ fn reads_commands(rt: HostRuntime) -> Result<(), Fail> {
         ),
     ];
     for (texts, program, input, budget) in cases {
-        let words = words_of(rt.alloc(), texts)?;
         let want = Run {
             program,
+            image: None,
             input,
+            report: None,
+            slaves: 4,
             budget,
+        };
+        assert!(rt; is_run(rt.alloc(), texts, &want)?, "at {texts:?}");
+    }
+    Ok(())
+}
+
+#[test]
+fn reads_runs_with_a_report(rt: HostRuntime) -> Result<(), Fail> {
+    let cases: [(&[&str], Option<&str>, Option<&str>, u8); 6] = [
+        (&["--report", "r"], None, Some("r"), 4),
+        (&["--slaves", "64"], None, None, 64),
+        (&["--slaves", "1", "--report", "r"], None, Some("r"), 1),
+        (&["--image", "i", "--report", "r"], Some("i"), Some("r"), 4),
+        (&["--report", "r", "--image", "r"], Some("r"), Some("r"), 4),
+        (
+            &[
+                "--report", "--image", "--image", "--report", "--slaves", "9",
+            ],
+            Some("--report"),
+            Some("--image"),
+            9,
+        ),
+    ];
+    for (options, image, report, slaves) in cases {
+        let mut words = words_of(rt.alloc(), &["run", "p"])?;
+        for option in options {
+            words.push(String::from_str(rt.alloc(), option)?)?;
+        }
+        let want = Run {
+            program: "p",
+            image,
+            input: None,
+            report,
+            slaves,
+            budget: 1_000_000_000,
         };
         assert_eq!(rt;
             read_command(&words),
             Some(Command::Run(want)),
-            "at {texts:?}"
+            "at {options:?}"
+        );
+    }
+    Ok(())
+}
+
+#[test]
+fn reads_the_name_of_an_image(rt: HostRuntime) -> Result<(), Fail> {
+    for image in ["f", "show", "--input", "a b"] {
+        let words = words_of(rt.alloc(), &["show", image])?;
+        assert_eq!(rt; read_command(&words), Some(Command::Show { image }));
+    }
+    Ok(())
+}
+
+#[test]
+fn reads_replays(rt: HostRuntime) -> Result<(), Fail> {
+    let cases: [(&[&str], Option<&str>, u8); 5] = [
+        (&[], None, 4),
+        (&["--slaves", "1"], None, 1),
+        (&["--slaves", "64"], None, 64),
+        (&["--input", "f"], Some("f"), 4),
+        (
+            &["--slaves", "20", "--input", "--slaves"],
+            Some("--slaves"),
+            20,
+        ),
+    ];
+    for (options, input, slaves) in cases {
+        let mut words = words_of(rt.alloc(), &["replay", "p", "i", "--input"])?;
+        for option in options {
+            words.push(String::from_str(rt.alloc(), option)?)?;
+        }
+        let want = Replay {
+            program: "p",
+            image: "i",
+            events: "--input",
+            input,
+            slaves,
+        };
+        assert_eq!(rt;
+            read_command(&words),
+            Some(Command::Replay(want)),
+            "at {options:?}"
         );
     }
     Ok(())
@@ -69,7 +155,7 @@ fn reads_commands(rt: HostRuntime) -> Result<(), Fail> {
 
 #[test]
 fn refuses_other_words(rt: HostRuntime) -> Result<(), Fail> {
-    let cases: [&[&str]; 31] = [
+    let cases: [&[&str]; 53] = [
         &[],
         &[""],
         &["run"],
@@ -101,6 +187,28 @@ fn refuses_other_words(rt: HostRuntime) -> Result<(), Fail> {
         &["run", "p", "--budget", "100000000000000000001"],
         &["run", "p", "--budget", "f", "--input", "1"],
         &["run", "p", "--input", "f", "--budget", "1", "more"],
+        &["run", "p", "--image", "i"],
+        &["run", "p", "--image", "", "--report", "r"],
+        &["run", "p", "--image", "i", "--report", ""],
+        &["run", "p", "--slaves", "0"],
+        &["run", "p", "--slaves", "65"],
+        &["show"],
+        &["show", ""],
+        &["show", "f", "g"],
+        &["show", "f", "--input", "g"],
+        &["shows", "f"],
+        &["replay"],
+        &["replay", "p"],
+        &["replay", "p", "i"],
+        &["replay", "", "i", "e"],
+        &["replay", "p", "", "e"],
+        &["replay", "p", "i", ""],
+        &["replay", "p", "i", "e", "--slaves"],
+        &["replay", "p", "i", "e", "--slaves", "0"],
+        &["replay", "p", "i", "e", "--slaves", "65"],
+        &["replay", "p", "i", "e", "--slaves", "04"],
+        &["replay", "p", "i", "e", "--slaves", "4", "--slaves", "4"],
+        &["replay", "p", "i", "e", "--budget", "1"],
     ];
     for texts in cases {
         let words = words_of(rt.alloc(), texts)?;

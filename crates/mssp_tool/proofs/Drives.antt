@@ -1,14 +1,23 @@
 -- The ways out of a run, and one turn of it.
-use Rattle.std.proofs.Common.{◌≡◌, ℕ, ◌+◌, ◌≤◌, ◌<◌, List, length, take, drop, sym, ap, subst, ◌∙◌, arith, Option}
+use Rattle.std.proofs.Common.{◌≡◌, ℕ, ◌+◌, ◌≤◌, ◌<◌, List, length, take, drop, sym, ap, subst, ◌∙◌, arith, Option, None, Some}
 use Rattle.std.proofs.lemmas.List.{length-append}
 use Rattle.outside.specs.Answers.{Gains}
 use Rattle.cells.specs.Run.{State, iterate}
 use Rattle.rv_run.specs.Calls.{step}
 use Rattle.mssp_tool.specs.declared.answer.Answer.{Answer}
-use Rattle.mssp_tool.specs.declared.answer.Answer.TheVariants.{Usage, Absent, StoreFault, SinkFault, Memory, TooLong, Refused, Ran}
-use Rattle.mssp_tool.specs.Driven.{Driven, Stops, state_after}
+use Rattle.mssp_tool.specs.declared.answer.Answer.TheVariants.{Usage, Absent, StoreFault, SinkFault, Memory, TooLong, Refused, Done, Ran, Budget}
+use Rattle.report.proofs.Gained.{part_before}
+use Rattle.mssp_tool.specs.Driven.{Driven, Stops, state_after, stopped_at, stands}
+use Rattle.mssp_tool.specs.Told.{Puts, Got}
+use Rattle.cells.specs.declared.End.{End}
 use Rattle.mssp_tool.proofs.Runs.{step_more, all_more, one_more}
-use Rattle.mssp_tool.proofs.Parts.{part_before, part_within, whole_piece}
+use Rattle.mssp_tool.proofs.Parts.{part_within, whole_piece}
+
+-- where the run stands after its steps is told so
+pub stood : (s : State) (budget : ℕ) (out : Puts) (a : Answer) (pc : ℕ) (o : Option End) → a ≡ stopped_at pc o → stopped_at pc o ≡ stands (state_after budget s)
+    → Got out (state_after budget s).env.output → Driven s budget out a
+stood s budget out a pc None e is got = subst (λ (x : Answer). Driven s budget out x) (sym e) (got, is)
+stood s budget out a pc (Some end) e is got = subst (λ (x : Answer). Driven s budget out x) (sym e) (got, is)
 
 -- s began the run, t stands at position k of it, and t's output was put. The names are those of the loop
 module _ (s t : State) (k budget : ℕ) (is : t ≡ iterate step s k) (within : k ≤ budget) (told mid : Option (List ℕ)) (g : Gains told mid t.env.output) where
@@ -33,11 +42,13 @@ module _ (s t : State) (k budget : ℕ) (is : t ≡ iterate step s k) (within : 
     stopped_there left before mid_faults now SinkFault l (rose, part) =
         let more = step_more t u next in
         let rest = all_more s u m budget (one_more s t u k m is next one) (omega (arith, one, room)) in
-        (omega (arith, l, rose), part_within told mid left t.env.output u.env.output (state_after budget s).env.output more.0 rest.0 put part.0 more.1 rest.1 p g part.1)
+        (omega (arith, l, rose), part_within told mid left t.env.output u.env.output more.0 put more.1 p g (state_after budget s).env.output rest.0 rest.1 part)
     stopped_there left before mid_faults now Memory l same = subst (λ d. (n : ℕ) × Gains told d (take n (state_after budget s).env.output)) (sym same) no_more
     stopped_there left before mid_faults now Usage l h = absurd h
     stopped_there left before mid_faults now (Absent x) l h = absurd h
     stopped_there left before mid_faults now (StoreFault x) l h = absurd h
     stopped_there left before mid_faults now (TooLong x) l h = absurd h
     stopped_there left before mid_faults now (Refused e) l h = absurd h
+    stopped_there left before mid_faults now Done l h = absurd h
     stopped_there left before mid_faults now (Ran pc end) l h = absurd h
+    stopped_there left before mid_faults now Budget l h = absurd h

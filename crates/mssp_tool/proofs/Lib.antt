@@ -2,4 +2,10 @@ pub mod Ready
 pub mod Runs
 pub mod Parts
 pub mod Drives
+pub mod Exact
 pub mod Complete
+pub mod Along
+pub mod Replays
+pub mod Stops
+pub mod Advances
+pub mod Reports

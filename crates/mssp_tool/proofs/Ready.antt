@@ -1,17 +1,17 @@
--- What a run comes to before its first step, from what its reads answered.
-use Rattle.std.proofs.Common.{◌≡◌, ℕ, ◌≤◌, inl, inr, List, Option, None, sym, ap, subst, ◌∙◌, arith}
+-- What a command comes to, from what its reads answered.
+use Rattle.std.proofs.Common.{◌≡◌, ℕ, ◌≤◌, inl, inr, List, Option, Err, subst, arith}
 use Rattle.outside.specs.Answers.{Rose, Lacks, HasLonger}
 use Rattle.outside.specs.Files.{Files}
-use Rattle.command_line.specs.Command.{RunCommand}
-use Rattle.cells.specs.Run.{State}
-use Rattle.elf_reader.specs.Executable.{Executable}
-use Rattle.elf_reader.specs.Refusal.{refusal}
-use Rattle.elf_reader.specs.Accepted.{program_of}
-use Rattle.seq_machine.specs.Parts.{start_of}
+use Rattle.dist_image.specs.Image.{Distilled}
+use Rattle.dist_image.specs.declared.error.ImageErr.{ImageErr}
+use Rattle.dist_image.specs.Reading.{image_from}
+use Rattle.mssp_tool.specs.declared.answer.Refusal.TheVariants as refused
 use Rattle.mssp_tool.specs.declared.answer.Source.{Source}
+use Rattle.mssp_tool.specs.declared.answer.Refusal.{Refusal}
 use Rattle.mssp_tool.specs.declared.answer.Answer.{Answer}
-use Rattle.mssp_tool.specs.declared.answer.Answer.TheVariants.{Usage, Absent, StoreFault, SinkFault, Memory, TooLong, Refused, Ran}
-use Rattle.mssp_tool.specs.Files.{IsReadFrom, NotRead, IsProgramOf, IsInput, start_from, program_limit}
+use Rattle.mssp_tool.specs.declared.answer.Answer.TheVariants.{Usage, Absent, StoreFault, SinkFault, Memory, TooLong, Refused, Done, Ran, Budget}
+use Rattle.mssp_tool.specs.Files.{NotRead, NotAccepted, IsReadFrom, IsNamedImage, NoNamedImage, NoInput, IsInput, image_limit, input_limit}
+use Rattle.mssp_tool.specs.declared.answer.Source.TheVariants as source
 
 -- a count that rose in a part of a call rose in the call
 rose_within : (before mid now : ℕ) → before ≤ mid → Rose mid now → Rose before now
@@ -29,15 +29,28 @@ not_read_within told told' before mid now name limit s Memory e l x = tt
 not_read_within told told' before mid now name limit s Usage e l x = absurd x
 not_read_within told told' before mid now name limit s SinkFault e l x = absurd x
 not_read_within told told' before mid now name limit s (Refused r) e l x = absurd x
+not_read_within told told' before mid now name limit s Done e l x = absurd x
 not_read_within told told' before mid now name limit s (Ran pc end) e l x = absurd x
+not_read_within told told' before mid now name limit s Budget e l x = absurd x
 
--- a file that was read and accepted
-pub is_program : (told : Option Files) (r : RunCommand) (file bytes : List ℕ) → IsReadFrom told r.program program_limit file → bytes ≡ file → refusal bytes ≡ None → IsProgramOf told r file
-is_program told r file bytes h e a = record { read = h; accepted = ap refusal (sym e) ∙ a }
+pub no_input_within : (told told' : Option Files) (before mid now : ℕ) (named : Option (List ℕ)) (a : Answer) → told' ≡ told → before ≤ mid
+    → NoInput (record { told = told'; before = mid; now = now }) named a → NoInput (record { told = told; before = before; now = now }) named a
+no_input_within told told' before mid now named a e l (name, is, h) = (name, is, not_read_within told told' before mid now name input_limit source.Input a e l h)
 
 pub is_input : (told told' : Option Files) (name : Option (List ℕ)) (i : List ℕ) → told' ≡ told → IsInput told' name i → IsInput told name i
 is_input told told' name i e h = subst (λ d. IsInput d name i) e h
 
--- the start of the run
-pub starts : (file bytes input : List ℕ) (program : Executable) (s : State) → bytes ≡ file → program ≡ program_of bytes → s ≡ start_of program input → s ≡ start_from file input
-starts file bytes input program s e p h = h ∙ ap (λ q. start_of q input) (p ∙ ap program_of e)
+pub is_named_image : (told told' : Option Files) (name : Option (List ℕ)) (i : Distilled) → told' ≡ told → IsNamedImage told' name i → IsNamedImage told name i
+is_named_image told told' name i e h = subst (λ d. IsNamedImage d name i) e h
+
+pub not_accepted_within : {E : Type 0} (told told' : Option Files) (before mid now : ℕ) (name : List ℕ) (limit : ℕ) (s : Source) (IsRefused : List ℕ → E → Type 0) (refuse : E → Refusal) (a : Answer)
+    → told' ≡ told → before ≤ mid
+    → NotAccepted (record { told = told'; before = mid; now = now }) name limit s IsRefused refuse a → NotAccepted (record { told = told; before = before; now = now }) name limit s IsRefused refuse a
+not_accepted_within told told' before mid now name limit s IsRefused refuse a e l (inl h) = inl (not_read_within told told' before mid now name limit s a e l h)
+not_accepted_within told told' before mid now name limit s IsRefused refuse a e l (inr (bytes, why, h, refused, is)) =
+    inr (bytes, why, subst (λ d. IsReadFrom d name limit bytes) e h, refused, is)
+
+pub no_named_image_within : (told told' : Option Files) (before mid now : ℕ) (named : Option (List ℕ)) (a : Answer) → told' ≡ told → before ≤ mid
+    → NoNamedImage (record { told = told'; before = mid; now = now }) named a → NoNamedImage (record { told = told; before = before; now = now }) named a
+no_named_image_within told told' before mid now named a e l (name, is, h) =
+    (name, is, not_accepted_within told told' before mid now name image_limit source.Image (λ bytes (x : ImageErr). image_from bytes ≡ Err x) refused.Image a e l h)

@@ -82,7 +82,7 @@ module _ (s : State) where
       over true = same s s refl
       over false = stops (machine.stops s.arch)
 
-grows : (s : State) (k d : ℕ) → Grows (iterate step s k) (iterate step s (d + k))
+pub grows : (s : State) (k d : ℕ) → Grows (iterate step s k) (iterate step s (d + k))
 grows s k zero = let e : k ≡ 0 + k = omega arith in subst (λ n. Grows (iterate step s k) (iterate step s n)) e (same (iterate step s k) (iterate step s k) refl)
 grows s k (suc d) =
     let e : suc (d + k) ≡ suc d + k = omega arith in

@@ -1,20 +1,33 @@
 -- The status and the line of each answer.
-use Rattle.std.specs.Prelude.{ℕ, ◌%◌, ◌^◌, ◌-◌, List, [], ◌++◌, codes, false, Option, Some, None}
-use Rattle.std.specs.Fmt.{padded_integral, format_spec, digits}
+use Rattle.std.specs.Prelude.{ℕ, ◌%◌, List, [], ◌∷◌, ◌++◌, codes, decimal, Option, Some, unwrap_or}
 use Rattle.cells.specs.declared.End.{End}
-use Rattle.cells.specs.declared.End.TheVariants.{Exit, Break, Illegal, Misfetch}
+use Rattle.cells.specs.declared.End.TheVariants.{Exit}
+use Rattle.command_line.specs.Command.{Command, Run, Show, Replay}
+use Rattle.dist_image.specs.declared.error.ImageErr.{ImageErr}
+use Rattle.dist_image.specs.declared.error.ImageErr.TheVariants as image
+use Rattle.dist_image.specs.declared.error.Table.{Table}
+use Rattle.dist_image.specs.declared.error.Table.TheVariants.{Slots, Anchors, Notes, Assumptions, Targets}
 use Rattle.elf_reader.specs.declared.error.ElfErr.{ElfErr}
 use Rattle.elf_reader.specs.declared.error.ElfErr.TheVariants as elf
+use Rattle.event_list.specs.declared.error.EventErr.{EventErr}
+use Rattle.event_list.specs.declared.error.EventErr.TheVariants as events
+use Rattle.report.specs.Text.{hex_word, line, end_words}
 use Rattle.mssp_tool.specs.declared.answer.Source.{Source}
 use Rattle.mssp_tool.specs.declared.answer.Source.TheVariants as source
+use Rattle.mssp_tool.specs.declared.answer.Refusal.{Refusal}
+use Rattle.mssp_tool.specs.declared.answer.Refusal.TheVariants as refusal
 use Rattle.mssp_tool.specs.declared.answer.Answer.{Answer}
-use Rattle.mssp_tool.specs.declared.answer.Answer.TheVariants.{Usage, Absent, StoreFault, SinkFault, Memory, TooLong, Refused, Ran}
+use Rattle.mssp_tool.specs.declared.answer.Answer.TheVariants.{Usage, Absent, StoreFault, SinkFault, Memory, TooLong, Refused, Done, Ran, Budget}
 
--- how a run stands: it used up its steps, or ended by an exit or otherwise
-abbrev pub run_status : Option End → ℕ
-run_status None = 120
-run_status (Some (Exit code)) = code % 256
-run_status (Some _) = 121
+-- how a run ended: by an exit, or otherwise
+abbrev pub end_status : End → ℕ
+end_status (Exit code) = code % 256
+end_status _ = 121
+
+abbrev pub refusal_status : Refusal → ℕ
+refusal_status (refusal.Program e) = 116
+refusal_status (refusal.Image e) = 117
+refusal_status (refusal.Events e) = 119
 
 abbrev pub status_of : Answer → ℕ
 status_of Usage = 110
@@ -23,64 +36,95 @@ status_of (StoreFault s) = 112
 status_of SinkFault = 113
 status_of Memory = 114
 status_of (TooLong s) = 115
-status_of (Refused e) = 116
-status_of (Ran pc end) = run_status end
+status_of (Refused r) = refusal_status r
+status_of Done = 0
+status_of (Ran pc end) = end_status end
+status_of Budget = 120
 
--- eight hexadecimal digits
-abbrev pub hex_word : ℕ → List ℕ
-hex_word n = padded_integral (format_spec 32 0 4 8 (2 ^ 64 - 1)) false [] (digits 16 false n)
+-- the name that a command has for a file, or nothing where it has none
+abbrev pub name_of : Option Command → Source → List ℕ
+name_of (Some (Run r)) source.Program = r.program
+name_of (Some (Run r)) source.Image = unwrap_or r.image []
+name_of (Some (Run r)) source.Input = unwrap_or r.input []
+name_of (Some (Run r)) source.Report = unwrap_or r.report []
+name_of (Some (Show image)) source.Image = image
+name_of (Some (Replay r)) source.Program = r.program
+name_of (Some (Replay r)) source.Image = r.image
+name_of (Some (Replay r)) source.Events = r.events
+name_of (Some (Replay r)) source.Input = unwrap_or r.input []
+name_of _ _ = []
 
-abbrev pub decimal : ℕ → List ℕ
-decimal n = digits 10 false n
+-- what a program is refused for
+abbrev pub elf_words : ElfErr → List (List ℕ)
+elf_words elf.Short = codes "short" ∷ []
+elf_words elf.Magic = codes "magic" ∷ []
+elf_words elf.Class = codes "class" ∷ []
+elf_words elf.Endian = codes "endian" ∷ []
+elf_words elf.Version = codes "version" ∷ []
+elf_words elf.Kind = codes "kind" ∷ []
+elf_words elf.Machine = codes "machine" ∷ []
+elf_words elf.Flags = codes "flags" ∷ []
+elf_words elf.Entry = codes "entry" ∷ []
+elf_words elf.Table = codes "table" ∷ []
+elf_words elf.TooMany = codes "too many" ∷ []
+elf_words elf.Interp = codes "interp" ∷ []
+elf_words (elf.Outside i) = codes "outside" ∷ decimal i ∷ []
+elf_words (elf.Larger i) = codes "larger" ∷ decimal i ∷ []
+elf_words (elf.Wraps i) = codes "wraps" ∷ decimal i ∷ []
+elf_words elf.Memory = codes "memory" ∷ []
 
-abbrev pub refusal_text : ElfErr → List ℕ
-refusal_text elf.Short = codes "short"
-refusal_text elf.Magic = codes "magic"
-refusal_text elf.Class = codes "class"
-refusal_text elf.Endian = codes "endian"
-refusal_text elf.Version = codes "version"
-refusal_text elf.Kind = codes "kind"
-refusal_text elf.Machine = codes "machine"
-refusal_text elf.Flags = codes "flags"
-refusal_text elf.Entry = codes "entry"
-refusal_text elf.Table = codes "table"
-refusal_text elf.TooMany = codes "too many"
-refusal_text elf.Interp = codes "interp"
-refusal_text (elf.Outside i) = codes "outside " ++ decimal i
-refusal_text (elf.Larger i) = codes "larger " ++ decimal i
-refusal_text (elf.Wraps i) = codes "wraps " ++ decimal i
-refusal_text elf.Memory = codes "memory"
+abbrev pub table_word : Table → List ℕ
+table_word Slots = codes "slots"
+table_word Anchors = codes "anchors"
+table_word Notes = codes "notes"
+table_word Assumptions = codes "assumptions"
+table_word Targets = codes "targets"
 
-abbrev pub end_text : End → List ℕ
-end_text (Exit code) = codes "exit " ++ decimal code
-end_text Break = codes "break"
-end_text (Illegal word) = codes "illegal " ++ hex_word word
-end_text (Misfetch target) = codes "misfetch " ++ hex_word target
+-- what an image is refused for
+abbrev pub image_words : ImageErr → List (List ℕ)
+image_words image.Short = codes "short" ∷ []
+image_words image.Magic = codes "magic" ∷ []
+image_words image.Version = codes "version" ∷ []
+image_words image.Limit = codes "limit" ∷ []
+image_words (image.TooMany t) = codes "too many" ∷ table_word t ∷ []
+image_words (image.Kind t i) = codes "kind" ∷ table_word t ∷ decimal i ∷ []
+image_words (image.Range t i) = codes "range" ∷ table_word t ∷ decimal i ∷ []
+image_words (image.Order t i) = codes "order" ∷ table_word t ∷ decimal i ∷ []
+image_words image.Long = codes "long" ∷ []
+image_words image.Memory = codes "memory" ∷ []
 
--- the name of the file that an answer speaks of
-abbrev pub name_of : Source → List ℕ → List ℕ → List ℕ
-name_of source.Program program input = program
-name_of source.Input program input = input
+-- what a list of events is refused for
+abbrev pub event_words : EventErr → List (List ℕ)
+event_words (events.Line number) = codes "line" ∷ decimal number ∷ []
+event_words (events.TooMany number) = codes "too many" ∷ decimal number ∷ []
+event_words events.Memory = codes "memory" ∷ []
 
-abbrev pub refused_line : List ℕ → List ℕ → List ℕ
-refused_line program what = codes "mssp: program " ++ program ++ codes ": " ++ what ++ codes "\n"
+-- what kind of file is refused, its name, and what it is refused for
+abbrev pub refusal_words : (Source → List ℕ) → Refusal → List (List ℕ)
+refusal_words name (refusal.Program e) = codes "program" ∷ (name source.Program ++ codes ":") ∷ elf_words e
+refusal_words name (refusal.Image e) = codes "image" ∷ (name source.Image ++ codes ":") ∷ image_words e
+refusal_words name (refusal.Events e) = codes "events" ∷ (name source.Events ++ codes ":") ∷ event_words e
 
-abbrev pub trap_line : List ℕ → List ℕ → List ℕ
-trap_line place what = codes "mssp: trap " ++ place ++ codes " " ++ what ++ codes "\n"
+abbrev pub fault_line : List (List ℕ) → List ℕ
+fault_line words = line (codes "mssp:") words
 
--- the line for where a run stands; an exit has none
-abbrev pub run_line : ℕ → Option End → List ℕ
-run_line pc None = codes "mssp: budget\n"
-run_line pc (Some (Exit code)) = []
-run_line pc (Some end) = trap_line (hex_word pc) (end_text end)
+abbrev pub trap_line : ℕ → End → List ℕ
+trap_line pc end = fault_line (codes "trap" ∷ hex_word pc ∷ end_words end)
 
--- the line that tells an answer, by the names of the program and the input
-abbrev pub line_of : Answer → List ℕ → List ℕ → List ℕ
-line_of Usage program input = codes "mssp: usage\n"
-line_of (Absent s) program input = codes "mssp: absent " ++ name_of s program input ++ codes "\n"
-line_of (StoreFault s) program input = codes "mssp: store fault " ++ name_of s program input ++ codes "\n"
-line_of SinkFault program input = codes "mssp: sink fault\n"
-line_of Memory program input = codes "mssp: memory\n"
-line_of (TooLong s) program input = codes "mssp: too long " ++ name_of s program input ++ codes "\n"
-line_of (Refused e) program input = refused_line program (refusal_text e)
-line_of (Ran pc end) program input = run_line pc end
+-- the line for how a run ended; an exit has none
+abbrev pub end_line : ℕ → End → List ℕ
+end_line pc (Exit code) = []
+end_line pc end = trap_line pc end
+
+-- the line that tells an answer, by the names of the command's files; what is done has none
+abbrev pub line_of : (Source → List ℕ) → Answer → List ℕ
+line_of name Usage = fault_line (codes "usage" ∷ [])
+line_of name (Absent s) = fault_line (codes "absent" ∷ name s ∷ [])
+line_of name (StoreFault s) = fault_line (codes "store fault" ∷ name s ∷ [])
+line_of name SinkFault = fault_line (codes "sink fault" ∷ [])
+line_of name Memory = fault_line (codes "memory" ∷ [])
+line_of name (TooLong s) = fault_line (codes "too long" ∷ name s ∷ [])
+line_of name (Refused r) = fault_line (refusal_words name r)
+line_of name Done = []
+line_of name (Ran pc end) = end_line pc end
+line_of name Budget = fault_line (codes "budget" ∷ [])

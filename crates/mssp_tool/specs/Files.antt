@@ -1,22 +1,34 @@
--- The files of a run, as the store tells them, and what a run comes to before its first step.
-use Rattle.std.specs.Prelude.{◌≡◌, ℕ, ◌≤◌, ◌⊎◌, List, [], length, Option, Some, None}
+-- The files that commands read, as the store tells them, and what a command comes to where it lacks one.
+use Rattle.std.specs.Prelude.{◌≡◌, ℕ, ◌≤◌, ◌⊎◌, nat_lt, if◌then◌else◌, List, [], length, Option, Some, None, Result, Ok, Err}
 use Rattle.std.specs.FinMap as finite
 use Rattle.outside.specs.Answers.{Lacks, HasLonger}
 use Rattle.outside.specs.Files.{Files}
-use Rattle.command_line.specs.Command.{RunCommand}
-use Rattle.cells.specs.Run.{State}
+use Rattle.dist_image.specs.declared.error.ImageErr.{ImageErr}
+use Rattle.dist_image.specs.Image.{Distilled, nothing_known}
+use Rattle.dist_image.specs.Reading.{image_from}
 use Rattle.elf_reader.specs.declared.error.ElfErr.{ElfErr}
+use Rattle.elf_reader.specs.Executable.{Executable}
 use Rattle.elf_reader.specs.Refusal.{refusal}
 use Rattle.elf_reader.specs.Accepted.{program_of}
-use Rattle.seq_machine.specs.Parts.{start_of}
+use Rattle.speculation.specs.declared.Event.{Event}
+use Rattle.event_list.specs.declared.error.EventErr.{EventErr}
+use Rattle.event_list.specs.Reading.{list_in}
 use Rattle.mssp_tool.specs.declared.answer.Source.{Source}
 use Rattle.mssp_tool.specs.declared.answer.Source.TheVariants as source
+use Rattle.mssp_tool.specs.declared.answer.Refusal.{Refusal}
+use Rattle.mssp_tool.specs.declared.answer.Refusal.TheVariants as refused
 use Rattle.mssp_tool.specs.declared.answer.Answer.{Answer}
 use Rattle.mssp_tool.specs.declared.answer.Answer.TheVariants.{Absent, StoreFault, Memory, TooLong, Refused}
 use Rattle.mssp_tool.specs.Told.{Reads, Fails}
 
 abbrev pub program_limit : ℕ
 program_limit = 16777216
+
+abbrev pub image_limit : ℕ
+image_limit = 67108864
+
+abbrev pub events_limit : ℕ
+events_limit = 67108864
 
 abbrev pub input_limit : ℕ
 input_limit = 67108864
@@ -33,32 +45,100 @@ NotRead store name limit s (StoreFault t) = (t ≡ s) × Fails store
 NotRead store name limit s Memory = Unit {0}
 NotRead store name limit s _ = ⊥
 
--- the store tells these bytes as the program of a run, and they are accepted
-pub record IsProgramOf (told : Option Files) (r : RunCommand) (p : List ℕ) : Type 0 where
-  pub read : IsReadFrom told r.program program_limit p
+-- a file was not read; or it was, and is refused for this
+abbrev pub NotAccepted : {E : Type 0} → Reads → List ℕ → ℕ → Source → (List ℕ → E → Type 0) → (E → Refusal) → Answer → Type 0
+NotAccepted {E} store name limit s IsRefused refuse a =
+    NotRead store name limit s a
+    ⊎ ((bytes : List ℕ) × (e : E) × IsReadFrom store.told name limit bytes × IsRefused bytes e × (a ≡ Refused (refuse e)))
+
+-- what was read of a file leads on, or its refusal
+abbrev pub of_reading : {A E : Type 0} → Result A E → (E → Refusal) → (A → Answer) → Answer
+of_reading (Ok x) refuse k = k x
+of_reading (Err e) refuse k = Refused (refuse e)
+
+-- a told file within its limit leads on; else what its want comes to
+abbrev pub of_file : Option (List ℕ) → ℕ → Source → (List ℕ → Answer) → Answer
+of_file None limit s k = Absent s
+of_file (Some bytes) limit s k = if nat_lt limit (length bytes) then TooLong s else k bytes
+
+-- ---- the program
+
+-- the store tells these bytes as the program of that name, and they are accepted
+pub record IsProgramOf (told : Option Files) (name p : List ℕ) : Type 0 where
+  pub read : IsReadFrom told name program_limit p
   pub accepted : refusal p ≡ None
 
--- and these as its input, which is empty where none is named
+abbrev pub HasProgram : Option Files → List ℕ → Executable → Type 0
+HasProgram told name program = (p : List ℕ) × IsProgramOf told name p × (program ≡ program_of p)
+
+-- the program is not read, or refused
+abbrev pub NoProgram : Reads → List ℕ → Answer → Type 0
+NoProgram store name a = NotAccepted store name program_limit source.Program (λ p (e : ElfErr). refusal p ≡ Some e) refused.Program a
+
+abbrev pub unless_refused : Option ElfErr → Answer → Answer
+unless_refused None a = a
+unless_refused (Some e) a = Refused (refused.Program e)
+
+abbrev pub of_program : Files → List ℕ → (List ℕ → Answer) → Answer
+of_program files name k = of_file (finite.get files name) program_limit source.Program (λ p. unless_refused (refusal p) (k p))
+
+-- ---- the image
+
+-- the store tells these bytes as the image of that name, and they are this one
+pub record IsImageOf (told : Option Files) (name bytes : List ℕ) (image : Distilled) : Type 0 where
+  pub read : IsReadFrom told name image_limit bytes
+  pub accepted : image_from bytes ≡ Ok image
+
+abbrev pub HasImage : Option Files → List ℕ → Distilled → Type 0
+HasImage told name image = (bytes : List ℕ) × IsImageOf told name bytes image
+
+-- the image is not read, or refused
+abbrev pub NoImage : Reads → List ℕ → Answer → Type 0
+NoImage store name a = NotAccepted store name image_limit source.Image (λ bytes (e : ImageErr). image_from bytes ≡ Err e) refused.Image a
+
+abbrev pub of_image : Files → List ℕ → (Distilled → Answer) → Answer
+of_image files name k = of_file (finite.get files name) image_limit source.Image (λ bytes. of_reading (image_from bytes) refused.Image k)
+
+-- the image that is named, or the empty one where none is
+abbrev pub IsNamedImage : Option Files → Option (List ℕ) → Distilled → Type 0
+IsNamedImage told None image = image ≡ nothing_known
+IsNamedImage told (Some name) image = HasImage told name image
+
+-- an image is named, and not read, or refused
+abbrev pub NoNamedImage : Reads → Option (List ℕ) → Answer → Type 0
+NoNamedImage store named a = (name : List ℕ) × (named ≡ Some name) × NoImage store name a
+
+abbrev pub of_named_image : Files → Option (List ℕ) → (Distilled → Answer) → Answer
+of_named_image files None k = k nothing_known
+of_named_image files (Some name) k = of_image files name k
+
+-- ---- the list of events
+
+-- the store tells these bytes as the list of that name, and they are this one
+pub record IsListOf (told : Option Files) (name bytes : List ℕ) (list : List (ℕ × Event)) : Type 0 where
+  pub read : IsReadFrom told name events_limit bytes
+  pub accepted : list_in bytes ≡ Ok list
+
+abbrev pub HasEvents : Option Files → List ℕ → List (ℕ × Event) → Type 0
+HasEvents told name list = (bytes : List ℕ) × IsListOf told name bytes list
+
+-- the list is not read, or refused
+abbrev pub NoEvents : Reads → List ℕ → Answer → Type 0
+NoEvents store name a = NotAccepted store name events_limit source.Events (λ bytes (e : EventErr). list_in bytes ≡ Err e) refused.Events a
+
+abbrev pub of_events : Files → List ℕ → (List (ℕ × Event) → Answer) → Answer
+of_events files name k = of_file (finite.get files name) events_limit source.Events (λ bytes. of_reading (list_in bytes) refused.Events k)
+
+-- ---- the input, which is empty where none is named
+
 abbrev pub IsInput : Option Files → Option (List ℕ) → List ℕ → Type 0
 IsInput told None i = i ≡ []
 IsInput told (Some name) i = IsReadFrom told name input_limit i
 
--- the program is read, and refused
-abbrev pub IsRefused : Option Files → RunCommand → Answer → Type 0
-IsRefused told r a = (p : List ℕ) × (e : ElfErr) × IsReadFrom told r.program program_limit p × (refusal p ≡ Some e) × (a ≡ Refused e)
+-- an input is named, and not read
+abbrev pub NoInput : Reads → Option (List ℕ) → Answer → Type 0
+NoInput store named a = (name : List ℕ) × (named ≡ Some name) × NotRead store name input_limit source.Input a
 
--- the program is accepted, and the input that is named isn't read
-abbrev pub LacksInput : Reads → RunCommand → Answer → Type 0
-LacksInput store r a = (p : List ℕ) × (name : List ℕ) × IsProgramOf store.told r p × (r.input ≡ Some name) × NotRead store name input_limit source.Input a
-
--- what a run comes to before its first step
-abbrev pub Unready : Reads → RunCommand → Answer → Type 0
-Unready store r a = NotRead store r.program program_limit source.Program a ⊎ IsRefused store.told r a ⊎ LacksInput store r a ⊎ (a ≡ Memory)
-
--- the start of the run of these files
-abbrev pub start_from : List ℕ → List ℕ → State
-start_from p i = start_of (program_of p) i
-
--- the files are read, the program is accepted, and this is the start of its run
-abbrev pub IsReady : Option Files → RunCommand → State → Type 0
-IsReady told r s = (p : List ℕ) × (i : List ℕ) × IsProgramOf told r p × IsInput told r.input i × (s ≡ start_from p i)
+abbrev pub of_input : Files → Option (List ℕ) → (List ℕ → Answer) → Answer
+of_input files None k = k []
+of_input files (Some name) k = of_file (finite.get files name) input_limit source.Input k

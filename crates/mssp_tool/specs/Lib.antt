@@ -2,4 +2,8 @@ pub mod Answer
 pub mod Told
 pub mod Files
 pub mod Driven
+pub mod Speculated
+pub mod Run
+pub mod Show
+pub mod Replay
 pub mod Top

@@ -1,9 +1,12 @@
 -- What a store and a sink told before and after a call, and their counts of faults.
-use Rattle.std.specs.Prelude.{◌≡◌, ℕ, List, take, Option}
-use Rattle.outside.specs.Answers.{Gains, Rose}
+use Rattle.std.specs.Prelude.{◌≡◌, ℕ, List, take, Option, Some, None, option_map}
+use Rattle.std.specs.FinMap as finite
+use Rattle.outside.specs.Answers.{Gains, Rose, OthersStay}
 use Rattle.outside.specs.Files.{Files}
+use Rattle.mssp_tool.specs.declared.answer.Answer.{Answer}
+use Rattle.mssp_tool.specs.declared.answer.Answer.TheVariants.{SinkFault, Memory, Done}
 
--- a store in a call that changes no file
+-- a store that is read in a call
 pub record Reads : Type 0 where
   pub told : Option Files
   pub before : ℕ
@@ -31,3 +34,19 @@ Got sink bytes = Gains sink.told sink.left bytes
 
 abbrev pub GotPart : Puts → List ℕ → Type 0
 GotPart sink bytes = (n : ℕ) × Got sink (take n bytes)
+
+-- a text was put whole; or a part of it, where the sink failed or there was no memory
+abbrev pub Delivered : Puts → List ℕ → Answer → Type 0
+Delivered out text Done = Got out text
+Delivered out text SinkFault = PutFails out × GotPart out text
+Delivered out text Memory = GotPart out text
+Delivered out text _ = ⊥
+
+-- of a store that told its files and what it tells now: this file was written
+abbrev pub Written : Option Files → Option Files → List ℕ → List ℕ → Type 0
+Written told left name bytes = left ≡ option_map (λ files. finite.insert files name bytes) told
+
+-- no file has changed but the one of this name, if there is a name
+abbrev pub OnlyChanges : Option Files → Option Files → Option (List ℕ) → Type 0
+OnlyChanges told left None = left ≡ told
+OnlyChanges told left (Some name) = OthersStay told left name

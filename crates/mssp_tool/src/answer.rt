@@ -1,16 +1,33 @@
 //! What a command comes to, with its status and its line.
-ghost use Rattle.std.specs.Prelude.{◌≡◌, string_bytes, IfOk};
-ghost use Rattle.mssp_tool.specs.Answer.{status_of, line_of, refusal_text, end_text, hex_word, refused_line, trap_line};
+ghost use Rattle.std.specs.Prelude.{◌≡◌, [], ◌∷◌, ◌++◌, decimal, option_map, IfOk, OnOk};
+ghost use Rattle.command_line.specs.Command.{shown};
+ghost use Rattle.report.specs.Text.{spaced};
+ghost use Rattle.mssp_tool.specs.Answer.{status_of, line_of, fault_line, trap_line, name_of, elf_words, table_word, image_words, event_words, refusal_words};
 
 use cells::End;
+use command_line::Command;
+use dist_image::{ImageErr, Table};
 use elf_reader::ElfErr;
+use event_list::EventErr;
+use report::{Word, push_end, push_line, push_words};
 use std::alloc::{AllocError, Global};
 
 /// Which of the files that a command reads.
 #[derive(Clone, Copy, Debug, PartialEq, Eq)]
 pub enum Source {
     Program,
+    Image,
+    Events,
     Input,
+    Report,
+}
+
+/// Why a file is refused.
+#[derive(Clone, Copy, Debug, PartialEq, Eq)]
+pub enum Refusal {
+    Program(ElfErr),
+    Image(ImageErr),
+    Events(EventErr),
 }
 
 /// What a command came to.
@@ -28,10 +45,14 @@ pub enum Answer {
     Memory,
     /// The file is longer than its limit.
     TooLong(Source),
-    /// The program's file is refused.
-    Refused(ElfErr),
-    /// The run went on to its end or used up its steps: where it stands, and how it ended, if it did.
-    Ran { pc: u32, end: Option<End> },
+    /// A file is refused.
+    Refused(Refusal),
+    /// The command is done, and its text is put.
+    Done,
+    /// The run went on to its end: where it stands, and how it ended.
+    Ran { pc: u32, end: End },
+    /// The run used up its steps.
+    Budget,
 }
 
 /// The status that the answer is told by.
@@ -45,96 +66,206 @@ pub fn status(answer: Answer) -> u8
         Answer::SinkFault => 113,
         Answer::Memory => 114,
         Answer::TooLong(_) => 115,
-        Answer::Refused(_) => 116,
-        Answer::Ran { end: None, .. } => 120,
+        Answer::Refused(Refusal::Program(_)) => 116,
+        Answer::Refused(Refusal::Image(_)) => 117,
+        Answer::Refused(Refusal::Events(_)) => 119,
+        Answer::Done => 0,
         Answer::Ran {
-            end: Some(End::Exit(code)),
+            end: End::Exit(code),
             ..
         } => (code % 256) as u8,
         Answer::Ran { .. } => 121,
+        Answer::Budget => 120,
     }
 }
 
-fn refusal_text(alloc: Global, refusal: ElfErr) -> Result<String, AllocError>
-    ensures { IfOk result (λ t. string_bytes t ≡ refusal_text refusal) }
+// The name that a command has for a file, or nothing where it has none.
+fn name<'a>(command: Option<Command<'a>>, source: Source) -> &'a str
+    ensures { result.now ≡ name_of (option_map shown command.entry) source }
+{
+    match (command, source) {
+        (Some(Command::Run(run)), Source::Program) => run.program,
+        (Some(Command::Run(run)), Source::Image) => run.image.unwrap_or(""),
+        (Some(Command::Run(run)), Source::Input) => run.input.unwrap_or(""),
+        (Some(Command::Run(run)), Source::Report) => run.report.unwrap_or(""),
+        (Some(Command::Show { image }), Source::Image) => image,
+        (Some(Command::Replay(replay)), Source::Program) => replay.program,
+        (Some(Command::Replay(replay)), Source::Image) => replay.image,
+        (Some(Command::Replay(replay)), Source::Events) => replay.events,
+        (Some(Command::Replay(replay)), Source::Input) => replay.input.unwrap_or(""),
+        _ => "",
+    }
+}
+
+fn push_elf(out: &mut Vec<u8>, refusal: ElfErr) -> Result<(), AllocError>
+    ensures { OnOk result (out.new.items ≡ out.old.items ++ spaced (elf_words refusal)) }
 {
     match refusal {
-        ElfErr::Short => String::from_str(alloc, "short"),
-        ElfErr::Magic => String::from_str(alloc, "magic"),
-        ElfErr::Class => String::from_str(alloc, "class"),
-        ElfErr::Endian => String::from_str(alloc, "endian"),
-        ElfErr::Version => String::from_str(alloc, "version"),
-        ElfErr::Kind => String::from_str(alloc, "kind"),
-        ElfErr::Machine => String::from_str(alloc, "machine"),
-        ElfErr::Flags => String::from_str(alloc, "flags"),
-        ElfErr::Entry => String::from_str(alloc, "entry"),
-        ElfErr::Table => String::from_str(alloc, "table"),
-        ElfErr::TooMany => String::from_str(alloc, "too many"),
-        ElfErr::Interp => String::from_str(alloc, "interp"),
-        ElfErr::Outside(i) => format!(in alloc; "outside {i}"),
-        ElfErr::Larger(i) => format!(in alloc; "larger {i}"),
-        ElfErr::Wraps(i) => format!(in alloc; "wraps {i}"),
-        ElfErr::Memory => String::from_str(alloc, "memory"),
+        ElfErr::Short => push_words(out, &[Word::Text("short")]),
+        ElfErr::Magic => push_words(out, &[Word::Text("magic")]),
+        ElfErr::Class => push_words(out, &[Word::Text("class")]),
+        ElfErr::Endian => push_words(out, &[Word::Text("endian")]),
+        ElfErr::Version => push_words(out, &[Word::Text("version")]),
+        ElfErr::Kind => push_words(out, &[Word::Text("kind")]),
+        ElfErr::Machine => push_words(out, &[Word::Text("machine")]),
+        ElfErr::Flags => push_words(out, &[Word::Text("flags")]),
+        ElfErr::Entry => push_words(out, &[Word::Text("entry")]),
+        ElfErr::Table => push_words(out, &[Word::Text("table")]),
+        ElfErr::TooMany => push_words(out, &[Word::Text("too many")]),
+        ElfErr::Interp => push_words(out, &[Word::Text("interp")]),
+        ElfErr::Outside(i) => push_words(out, &[Word::Text("outside"), Word::Number(i.into())]),
+        ElfErr::Larger(i) => push_words(out, &[Word::Text("larger"), Word::Number(i.into())]),
+        ElfErr::Wraps(i) => push_words(out, &[Word::Text("wraps"), Word::Number(i.into())]),
+        ElfErr::Memory => push_words(out, &[Word::Text("memory")]),
     }
 }
 
-fn end_text(alloc: Global, end: End) -> Result<String, AllocError>
-    ensures { IfOk result (λ t. string_bytes t ≡ end_text end) }
+fn table_word(table: Table) -> &'static str
+    ensures { result.now ≡ table_word table }
 {
-    match end {
-        End::Exit(code) => format!(in alloc; "exit {code}"),
-        End::Break => String::from_str(alloc, "break"),
-        End::Illegal(word) => format!(in alloc; "illegal {word:08x}"),
-        End::Misfetch(target) => format!(in alloc; "misfetch {target:08x}"),
+    match table {
+        Table::Slots => "slots",
+        Table::Anchors => "anchors",
+        Table::Notes => "notes",
+        Table::Assumptions => "assumptions",
+        Table::Targets => "targets",
     }
 }
 
-fn refused_line(alloc: Global, program: &str, what: &str) -> Result<String, AllocError>
-    ensures { IfOk result (λ t. string_bytes t ≡ refused_line program.now what.now) }
+// Puts what is wrong with an entry of a table.
+fn push_entry(out: &mut Vec<u8>, what: &str, table: Table, i: u32) -> Result<(), AllocError>
+    ensures { OnOk result (out.new.items
+        ≡ out.old.items ++ spaced (what.now ∷ table_word table ∷ decimal i ∷ [])) }
 {
-    format!(in alloc; "mssp: program {program}: {what}\n")
+    let table = Word::Text(table_word(table));
+    push_words(out, &[Word::Text(what), table, Word::Number(u64::from(i))])
 }
 
-fn hex_word(alloc: Global, word: u32) -> Result<String, AllocError>
-    ensures { IfOk result (λ t. string_bytes t ≡ hex_word word) }
+fn push_image(out: &mut Vec<u8>, refusal: ImageErr) -> Result<(), AllocError>
+    ensures { OnOk result (out.new.items ≡ out.old.items ++ spaced (image_words refusal)) }
 {
-    format!(in alloc; "{word:08x}")
+    match refusal {
+        ImageErr::Short => push_words(out, &[Word::Text("short")]),
+        ImageErr::Magic => push_words(out, &[Word::Text("magic")]),
+        ImageErr::Version => push_words(out, &[Word::Text("version")]),
+        ImageErr::Limit => push_words(out, &[Word::Text("limit")]),
+        ImageErr::TooMany(table) => {
+            push_words(
+                out,
+                &[Word::Text("too many"), Word::Text(table_word(table))],
+            )
+        }
+        ImageErr::Kind(table, i) => push_entry(out, "kind", table, i),
+        ImageErr::Range(table, i) => push_entry(out, "range", table, i),
+        ImageErr::Order(table, i) => push_entry(out, "order", table, i),
+        ImageErr::Long => push_words(out, &[Word::Text("long")]),
+        ImageErr::Memory => push_words(out, &[Word::Text("memory")]),
+    }
 }
 
-fn trap_line(alloc: Global, place: &str, what: &str) -> Result<String, AllocError>
-    ensures { IfOk result (λ t. string_bytes t ≡ trap_line place.now what.now) }
+fn push_events(out: &mut Vec<u8>, refusal: EventErr) -> Result<(), AllocError>
+    ensures { OnOk result (out.new.items ≡ out.old.items ++ spaced (event_words refusal)) }
 {
-    format!(in alloc; "mssp: trap {place} {what}\n")
+    match refusal {
+        EventErr::Line(number) => push_words(out, &[Word::Text("line"), Word::Number(number)]),
+        EventErr::TooMany(number) => {
+            push_words(out, &[Word::Text("too many"), Word::Number(number)])
+        }
+        EventErr::Memory => push_words(out, &[Word::Text("memory")]),
+    }
 }
 
-/// The line that tells the answer, or nothing where the status alone does. `program` and `input`
-/// are the names of the command's files.
-pub fn line(alloc: Global, answer: Answer, program: &str, input: &str) -> Result<String, AllocError>
-    ensures { IfOk result (λ t. string_bytes t ≡ line_of answer program.now input.now) }
+fn push_refusal(
+    out: &mut Vec<u8>,
+    refusal: Refusal,
+    command: Option<Command<'_>>,
+) -> Result<(), AllocError>
+    ensures { OnOk result (out.new.items
+        ≡ out.old.items ++ spaced (refusal_words (name_of (option_map shown command.entry)) refusal)) }
+{
+    match refusal {
+        Refusal::Program(what) => {
+            let program = name(command, Source::Program);
+            push_words(out, &[Word::Text("program"), Word::Label(program)])?;
+            push_elf(out, what)
+        }
+        Refusal::Image(what) => {
+            let image = name(command, Source::Image);
+            push_words(out, &[Word::Text("image"), Word::Label(image)])?;
+            push_image(out, what)
+        }
+        Refusal::Events(what) => {
+            let events = name(command, Source::Events);
+            push_words(out, &[Word::Text("events"), Word::Label(events)])?;
+            push_events(out, what)
+        }
+    }
+}
+
+fn push_trap(out: &mut Vec<u8>, pc: u32, end: End) -> Result<(), AllocError>
+    ensures { OnOk result (out.new.items ≡ out.old.items ++ trap_line pc end) }
+{
+    out.extend_from_slice(b"mssp:")?;
+    push_words(out, &[Word::Text("trap"), Word::Hex(pc)])?;
+    push_end(out, end)?;
+    out.extend_from_slice(b"\n")
+}
+
+fn push_refused(
+    out: &mut Vec<u8>,
+    refusal: Refusal,
+    command: Option<Command<'_>>,
+) -> Result<(), AllocError>
+    ensures { OnOk result (out.new.items
+        ≡ out.old.items ++ fault_line (refusal_words (name_of (option_map shown command.entry)) refusal)) }
+{
+    out.extend_from_slice(b"mssp:")?;
+    push_refusal(out, refusal, command)?;
+    out.extend_from_slice(b"\n")
+}
+
+// Puts a line that says what happened to a file.
+fn push_fault(out: &mut Vec<u8>, fault: &str, name: &str) -> Result<(), AllocError>
+    ensures { OnOk result (out.new.items ≡ out.old.items ++ fault_line (fault.now ∷ name.now ∷ [])) }
+{
+    push_line(out, "mssp:", &[Word::Text(fault), Word::Text(name)])
+}
+
+fn push_answer(
+    out: &mut Vec<u8>,
+    answer: Answer,
+    command: Option<Command<'_>>,
+) -> Result<(), AllocError>
+    ensures { OnOk result (out.new.items
+        ≡ out.old.items ++ line_of (name_of (option_map shown command.entry)) answer) }
 {
     match answer {
-        Answer::Usage => String::from_str(alloc, "mssp: usage\n"),
-        Answer::Absent(Source::Program) => format!(in alloc; "mssp: absent {program}\n"),
-        Answer::Absent(Source::Input) => format!(in alloc; "mssp: absent {input}\n"),
-        Answer::StoreFault(Source::Program) => format!(in alloc; "mssp: store fault {program}\n"),
-        Answer::StoreFault(Source::Input) => format!(in alloc; "mssp: store fault {input}\n"),
-        Answer::SinkFault => String::from_str(alloc, "mssp: sink fault\n"),
-        Answer::Memory => String::from_str(alloc, "mssp: memory\n"),
-        Answer::TooLong(Source::Program) => format!(in alloc; "mssp: too long {program}\n"),
-        Answer::TooLong(Source::Input) => format!(in alloc; "mssp: too long {input}\n"),
-        Answer::Refused(refusal) => {
-            let what = refusal_text(alloc, refusal)?;
-            refused_line(alloc, program, what.as_str())
-        }
-        Answer::Ran { end: None, .. } => String::from_str(alloc, "mssp: budget\n"),
+        Answer::Usage => push_line(out, "mssp:", &[Word::Text("usage")]),
+        Answer::Absent(source) => push_fault(out, "absent", name(command, source)),
+        Answer::StoreFault(source) => push_fault(out, "store fault", name(command, source)),
+        Answer::SinkFault => push_line(out, "mssp:", &[Word::Text("sink fault")]),
+        Answer::Memory => push_line(out, "mssp:", &[Word::Text("memory")]),
+        Answer::TooLong(source) => push_fault(out, "too long", name(command, source)),
+        Answer::Refused(refusal) => push_refused(out, refusal, command),
+        Answer::Done => Ok(()),
         Answer::Ran {
-            end: Some(End::Exit(_)),
+            end: End::Exit(_),
             ..
-        } => Ok(String::new(alloc)),
-        Answer::Ran { pc, end: Some(end) } => {
-            let what = end_text(alloc, end)?;
-            let place = hex_word(alloc, pc)?;
-            trap_line(alloc, place.as_str(), what.as_str())
-        }
+        } => Ok(()),
+        Answer::Ran { pc, end } => push_trap(out, pc, end),
+        Answer::Budget => push_line(out, "mssp:", &[Word::Text("budget")]),
     }
+}
+
+/// The line that tells a command's answer, or nothing where the status alone does.
+pub fn line(
+    alloc: Global,
+    answer: Answer,
+    command: Option<Command<'_>>,
+) -> Result<Vec<u8>, AllocError>
+    ensures { IfOk result (λ line. line.items ≡ line_of (name_of (option_map shown command.entry)) answer) }
+{
+    let mut out = Vec::new(alloc);
+    push_answer(&mut out, answer, command)?;
+    Ok(out)
 }

@@ -2,7 +2,7 @@
 ghost use Rattle.std.specs.Prelude.{◌≡◌, ◌≤◌, ℕ, [], length, drop, OnOk, IfErr};
 ghost use Rattle.outside.specs.Answers.{Gains};
 ghost use Rattle.mssp_tool.specs.Told.{Puts};
-ghost use Rattle.mssp_tool.specs.Driven.{Driven, Stops};
+ghost use Rattle.mssp_tool.specs.Driven.{Driven, Stops, stands};
 ghost use Rattle.seq_machine.specs.States.{state_of};
 
 use crate::answer::Answer;
@@ -11,9 +11,14 @@ use outside::{Sink, SinkErr};
 use seq_machine::Machine;
 use std::alloc::Global;
 
-// Puts the bytes from a place on, if there are any.
+/// Puts the bytes from a place on, if there are any.
 #[inline(always)]
-fn put_from<O: Sink>(alloc: Global, out: &mut O, bytes: &[u8], from: usize) -> Result<(), Answer>
+pub fn put_from<O: Sink>(
+    alloc: Global,
+    out: &mut O,
+    bytes: &[u8],
+    from: usize,
+) -> Result<(), Answer>
     requires { from ≤ length bytes.now }
     ensures ok { OnOk result (Gains (O.told out.old) (O.told out.new) (drop from bytes.now)) }
     ensures err { IfErr result (Stops (O.told out.old) (O.told out.new) (O.faults out.old) (O.faults out.new) (drop from bytes.now)) }
@@ -26,6 +31,19 @@ fn put_from<O: Sink>(alloc: Global, out: &mut O, bytes: &[u8], from: usize) -> R
         Ok(()) => Ok(()),
         Err(SinkErr::Failed) => Err(Answer::SinkFault),
         Err(SinkErr::Memory) => Err(Answer::Memory),
+    }
+}
+
+/// The answer that tells where a machine stands that goes on no further.
+pub fn stand<M: Memory>(machine: &Machine<M>) -> Answer
+    ensures { result ≡ stands (state_of M.at machine.now) }
+{
+    match machine.end {
+        Some(end) => Answer::Ran {
+            pc: machine.arch.pc,
+            end,
+        },
+        None => Answer::Budget,
     }
 }
 
@@ -54,8 +72,5 @@ pub fn drive<O: Sink, M: Memory>(
         }
         put = machine.out.len();
     }
-    Answer::Ran {
-        pc: machine.arch.pc,
-        end: machine.end,
-    }
+    stand(machine)
 }

@@ -3,7 +3,12 @@
 
 mod answer;
 mod driving;
-mod preparing;
+mod events;
+mod reading;
+mod replay;
+mod run;
+mod show;
+mod speculating;
 mod top;
 
 pub use top::mssp;

@@ -2,8 +2,18 @@
 #![tactic(auto)]
 
 #[cfg(test)]
+mod hostile_images;
+#[cfg(test)]
+mod images;
+#[cfg(test)]
 mod outside_world;
 #[cfg(test)]
 mod programs;
+#[cfg(test)]
+mod replays;
+#[cfg(test)]
+mod reports;
+#[cfg(test)]
+mod shows;
 #[cfg(test)]
 mod tests;

@@ -28,6 +28,8 @@ pub struct Left {
     pub status: u8,
     pub out: Vec<u8>,
     pub err: Vec<u8>,
+    /// The file `r`; empty where there is none.
+    pub report: Vec<u8>,
 }
 
 fn file(alloc: Global, name: &str, bytes: Vec<u8>) -> Result<(String, Vec<u8>), AllocError>
@@ -36,14 +38,28 @@ fn file(alloc: Global, name: &str, bytes: Vec<u8>) -> Result<(String, Vec<u8>), 
     Ok((String::from_str(alloc, name)?, bytes))
 }
 
-fn files(
-    alloc: Global,
-    program: Vec<u8>,
-    input: Vec<u8>,
-) -> Result<Vec<(String, Vec<u8>)>, AllocError>
+/// The files that a command may read.
+#[derive(Drop)]
+pub struct Files {
+    /// The file `p`.
+    pub program: Vec<u8>,
+    /// The file `m`.
+    pub image: Vec<u8>,
+    /// The file `e`.
+    pub events: Vec<u8>,
+    /// The file `i`.
+    pub input: Vec<u8>,
+}
+
+fn named(alloc: Global, files: Files) -> Result<Vec<(String, Vec<u8>)>, AllocError>
     ensures { IfOk result (λ files. HasDistinctNames files.items) }
 {
-    let files = vec![in alloc; file(alloc, "p", program)?, file(alloc, "i", input)?]?;
+    let files = vec![in alloc;
+        file(alloc, "p", files.program)?,
+        file(alloc, "m", files.image)?,
+        file(alloc, "e", files.events)?,
+        file(alloc, "i", files.input)?,
+    ]?;
     Ok(files)
 }
 
@@ -55,16 +71,15 @@ fn words_of(alloc: Global, texts: &[&str]) -> Result<Vec<String>, AllocError> {
     Ok(words)
 }
 
-/// Performs a command where the file `p` is the program and `i` the input.
-pub fn perform(
+/// Performs a command over these files.
+pub fn perform_over(
     alloc: Global,
     words: &[&str],
-    program: Vec<u8>,
-    input: Vec<u8>,
+    files: Files,
     fails: Fails,
 ) -> Result<Left, AllocError> {
     let words = words_of(alloc, words)?;
-    let files = files(alloc, program, input)?;
+    let files = named(alloc, files)?;
     let mut store = MemStore::new(alloc, files, vec![in alloc; fails.store]?)?;
     let mut out = MemSink::new(alloc, vec![in alloc; fails.out]?);
     let mut err = MemSink::new(alloc, vec![in alloc; fails.err]?);
@@ -73,5 +88,23 @@ pub fn perform(
         status,
         out: out.bytes().to_vec(alloc)?,
         err: err.bytes().to_vec(alloc)?,
+        report: store.file("r").unwrap_or(&[]).to_vec(alloc)?,
     })
+}
+
+/// Performs a command where the file `p` is the program and `i` the input.
+pub fn perform(
+    alloc: Global,
+    words: &[&str],
+    program: Vec<u8>,
+    input: Vec<u8>,
+    fails: Fails,
+) -> Result<Left, AllocError> {
+    let files = Files {
+        program,
+        image: Vec::new(alloc),
+        events: Vec::new(alloc),
+        input,
+    };
+    perform_over(alloc, words, files, fails)
 }

@@ -43,6 +43,27 @@ pub static READ_TWICE: [u32; 12] = [
     0x00429293, 0x00550533, 0x05D00893, 0x00000073,
 ];
 
+/// Counts down from ten in a loop of two instructions, and exits with 0.
+pub static TEN_TURNS_LOOP: [u32; 6] = [
+    0x00A00293, 0xFFF28293, 0xFE029EE3, 0x00000513, 0x05D00893, 0x00000073,
+];
+
+/// Counts down from ten, past a compare that is never true, and exits with 0.
+pub static COMPARE_LOOP: [u32; 10] = [
+    0x00A00293, 0x0002A313, 0x00031863, 0xFFF28293, 0xFE029AE3, 0x0080006F, 0x00100073, 0x00000513,
+    0x05D00893, 0x00000073,
+];
+
+/// Adds 1 to the word at 0x00020000, without end.
+pub static COUNT_WITHOUT_END: [u32; 5] = [
+    0x00020337, 0x00032383, 0x00138393, 0x00732023, 0xFF5FF06F,
+];
+
+/// Puts the instruction that loads 9 in place of the one that loads 7, and exits with 9.
+pub static REWRITES_ITSELF: [u32; 8] = [
+    0x00000297, 0x01C2A303, 0x0062A823, 0x05D00893, 0x00700513, 0x00000073, 0x00000000, 0x00900513,
+];
+
 /// Exits with 511, of which a status holds 255.
 pub static EXIT_511: [u32; 3] = [0x1FF00513, 0x05D00893, 0x00000073];
 

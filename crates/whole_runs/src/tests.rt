@@ -111,7 +111,7 @@ fn a_write_takes_65_536_bytes_at_most(rt: HostRuntime) -> Result<(), Fail> {
 #[test]
 fn other_words_are_no_command(rt: HostRuntime) -> Result<(), Fail> {
     let alloc = rt.alloc();
-    let cases: [&[&str]; 20] = [
+    let cases: [&[&str]; 28] = [
         &[],
         &[""],
         &["p"],
@@ -132,6 +132,14 @@ fn other_words_are_no_command(rt: HostRuntime) -> Result<(), Fail> {
         &["run", "p", "--input", "i", "--input", "i"],
         &["run", "p", "--inputs", "i"],
         &["--budget", "3", "run", "p"],
+        &["show"],
+        &["show", ""],
+        &["show", "p", "p"],
+        &["show", "p", "--input", "i"],
+        &["replay", "p", "m"],
+        &["replay", "p", "m", ""],
+        &["replay", "p", "m", "e", "--slaves", "65"],
+        &["replay", "p", "m", "e", "--budget", "1"],
     ];
     for words in cases {
         let program = frame(alloc, &HELLO)?;
@@ -227,13 +235,14 @@ fn files_are_read_in_order_up_to_their_limits(rt: HostRuntime) -> Result<(), Fai
     let absent: &[&str] = &["run", "nowhere"];
     let no_input: &[&str] = &["run", "p", "--input", "naïve file"];
     // the length of the program, which is of zeros where it isn't 96, and of the input
-    let cases: [(&[&str], usize, usize, u8, &str); 6] = [
+    let cases: [(&[&str], usize, usize, u8, &str); 7] = [
         (absent, 96, 0, 111, "mssp: absent nowhere\n"),
         (no_input, 96, 0, 111, "mssp: absent naïve file\n"),
         (no_input, 95, 0, 116, "mssp: program p: magic\n"),
         (no_input, 16_777_217, 0, 115, "mssp: too long p\n"),
         (RUN, 16_777_216, 0, 116, "mssp: program p: magic\n"),
         (RUN_WITH_INPUT, 96, 67_108_865, 115, "mssp: too long i\n"),
+        (&["show", "nowhere"], 96, 0, 111, "mssp: absent nowhere\n"),
     ];
     for (words, program, input, status, line) in cases {
         let program = if program == 96 {

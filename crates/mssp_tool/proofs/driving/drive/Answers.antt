@@ -3,9 +3,9 @@ use Rattle.std.proofs.Common.{◌≡◌, ℕ, ◌≤◌, ◌∙◌, ap, sym, sub
 use Rattle.outside.specs.Answers.{Gains}
 use Rattle.cells.specs.Run.{State, is_over}
 use Rattle.seq_machine.specs.States.{state_of}
-use Rattle.mssp_tool.specs.Driven.{state_after, Stops}
+use Rattle.mssp_tool.specs.Driven.{state_after, Stops, stands}
 use Rattle.mssp_tool.proofs.Runs.{after_all, has_ended, one_more}
-use Rattle.mssp_tool.proofs.Drives.{no_more, room_to_put, put_too, stopped_there}
+use Rattle.mssp_tool.proofs.Drives.{stood, no_more, room_to_put, put_too, stopped_there}
 use Rattle.mssp_tool.proofs.driving.drive.Goals as goal
 use Rattle.mssp_tool.proofs.driving.drive.Goals.{then-loop-alloc-test+else-machine-budget, else-loop-alloc-test}
 
@@ -58,8 +58,6 @@ returns g c =
       | then-loop-alloc-test+else-machine-budget w ↦ inr (omega (arith, w.if-machine-budget.false))
       | else-loop-alloc-test w ↦ inl (has_ended c.loop-alloc.machine.end (c.is_none.ensures ∙ ap not w.loop-alloc-test.false))
     ] in
-    let all : t ≡ state_after c.args.budget s = after_all s t c.loop-alloc.machine.position c.args.budget i.state i.within over in (
-      subst (λ bs. Gains (g.O.Sink.told c.args.out.now) (g.O.Sink.told c.loop-alloc.out) bs) (ap (λ (x : State). x.env.output) all) i.told,
-      ap (λ (x : State). x.arch.pc) all,
-      ap (λ (x : State). x.env.over) all,
-    )
+    let all : t ≡ state_after c.args.budget s = after_all s t c.loop-alloc.machine.position c.args.budget i.state i.within over in
+    stood s c.args.budget (record { told = g.O.Sink.told c.args.out.now; left = g.O.Sink.told c.loop-alloc.out; before = g.O.Sink.faults c.args.out.now; now = g.O.Sink.faults c.loop-alloc.out })
+    c.stand.result t.arch.pc t.env.over c.stand.ensures (ap stands all) (subst (λ bs. Gains (g.O.Sink.told c.args.out.now) (g.O.Sink.told c.loop-alloc.out) bs) (ap (λ (x : State). x.env.output) all) i.told)

@@ -1,0 +1,82 @@
+-- A machine that is given events, turn by turn: what was put, and where it is cut off.
+use Rattle.std.proofs.Common.{◌≡◌, ℕ, ◌+◌, ◌<◌, ◌≤◌, true, false, List, ◌++◌, length, drop, sym, ap, subst, ◌∙◌, arith, inl, inr, Option}
+use Rattle.std.proofs.lemmas.List.{length-append}
+use Rattle.std.proofs.lemmas.Bool.{cases_lt}
+use Rattle.outside.specs.Answers.{Gains}
+use Rattle.cells.specs.Run.{State, is_over}
+use Rattle.speculation.specs.declared.Event.{Event}
+use Rattle.speculation.specs.World.{World}
+use Rattle.dist_image.specs.Image.{Distilled, IsImage}
+use Rattle.image_world.specs.World.{world}
+use Rattle.schedules.specs.Schedule.{after, has_come}
+use Rattle.report.proofs.Gained.{part_before}
+use Rattle.mssp_tool.specs.declared.answer.Answer.{Answer}
+use Rattle.mssp_tool.specs.declared.answer.Answer.TheVariants.{Usage, Absent, StoreFault, SinkFault, Memory, TooLong, Refused, Done, Ran, Budget}
+use Rattle.mssp_tool.specs.declared.speculating.Schedule.{Schedule}
+use Rattle.mssp_tool.specs.Driven.{Stops, CutOff}
+use Rattle.mssp_tool.specs.Speculated.{events_of, IsStop}
+use Rattle.mssp_tool.proofs.Parts.{part_within, whole_piece}
+use Rattle.mssp_tool.proofs.Stops.{stop_comes, is_stop, outputs_grow}
+
+-- the names are those of the loop: so many events were given, and what was output after these was put
+module _ (start : State) (image : Distilled) (slaves : ℕ) (ok : IsImage image) (some : 0 < slaves) (s : Schedule) (far : ℕ) (least : 0 < far) (runs : is_over start ≡ false) where
+  abbrev w : World
+  w = world start image slaves
+
+  abbrev event : ℕ → Event
+  event = events_of s slaves
+
+  abbrev output : ℕ → List ℕ
+  output k = (after w event k).committed.env.output
+
+  module _ (given : ℕ) (not_yet : (i : ℕ) → i < given → has_come far (after w event i) ≡ false) (told mid : Option (List ℕ)) (g : Gains told mid (output given)) where
+    -- it stopped here
+    pub stopped_here : has_come far (after w event given) ≡ true → IsStop w event far given
+    stopped_here there = is_stop start image slaves ok some event far given least runs (record { there = there; first = not_yet })
+
+    -- there was no memory for an event, or for the put of its output
+    pub no_memory : (before now : ℕ) → (k : ℕ) × IsStop w event far k × CutOff (record { told = told; left = mid; before = before; now = now }) (output k) Memory
+    no_memory before now =
+        let stop = stop_comes start image slaves ok some s far given not_yet in
+        let more = outputs_grow start image slaves ok some event given stop.0 stop.2 in
+        (stop.0, is_stop start image slaves ok some event far stop.0 least runs stop.1, part_before told mid (output given) more.0 (output stop.0) more.1 g)
+
+    module _ (n put : ℕ) (one : n ≡ given + 1) (p : put ≡ length (output given)) (goes : has_come far (after w event given) ≡ false) where
+      pub not_yet_too : (i : ℕ) → i < n → has_come far (after w event i) ≡ false
+      not_yet_too i l = elim (cases_lt i given) [
+        | inl below ↦ not_yet i below
+        | inr above ↦ let same : given ≡ i = omega (arith, l, above, one) in subst (λ k. has_come far (after w event k) ≡ false) same goes
+      ]
+
+      more : (bs : List ℕ) × (output n ≡ output given ++ bs)
+      more = outputs_grow start image slaves ok some event given n (omega (arith, one))
+
+      pub room_to_put : put ≤ length (output n)
+      room_to_put =
+          let long : length (output n) ≡ length (output given) + length more.0 = ap (λ (bs : List ℕ). length bs) more.1 ∙ length-append (output given) more.0 in
+          omega (arith, long, p)
+
+      -- the output of the event was put
+      pub put_too : (left : Option (List ℕ)) → Gains mid left (drop put (output n)) → Gains told left (output n)
+      put_too left h = whole_piece told mid left (output given) (output n) more.0 put more.1 p g h
+
+      -- the put of its output stopped the run
+      pub stopped_there : (left : Option (List ℕ)) (before mid_faults now : ℕ) (a : Answer) → before ≤ mid_faults → Stops mid left mid_faults now (drop put (output n)) a
+          → (k : ℕ) × IsStop w event far k × CutOff (record { told = told; left = left; before = before; now = now }) (output k) a
+      stopped_there left before mid_faults now SinkFault l (rose, part) =
+          let stop = stop_comes start image slaves ok some s far n not_yet_too in
+          let rest = outputs_grow start image slaves ok some event n stop.0 stop.2 in (
+            stop.0,
+            is_stop start image slaves ok some event far stop.0 least runs stop.1,
+            (omega (arith, l, rose), part_within told mid left (output given) (output n) more.0 put more.1 p g (output stop.0) rest.0 rest.1 part),
+          )
+      stopped_there left before mid_faults now Memory l same =
+          subst (λ d. (k : ℕ) × IsStop w event far k × CutOff (record { told = told; left = d; before = before; now = now }) (output k) Memory) (sym same) (no_memory before now)
+      stopped_there left before mid_faults now Usage l h = absurd h
+      stopped_there left before mid_faults now (Absent x) l h = absurd h
+      stopped_there left before mid_faults now (StoreFault x) l h = absurd h
+      stopped_there left before mid_faults now (TooLong x) l h = absurd h
+      stopped_there left before mid_faults now (Refused e) l h = absurd h
+      stopped_there left before mid_faults now Done l h = absurd h
+      stopped_there left before mid_faults now (Ran pc end) l h = absurd h
+      stopped_there left before mid_faults now Budget l h = absurd h

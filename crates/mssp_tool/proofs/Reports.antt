@@ -1,0 +1,137 @@
+-- A report that was written, or not.
+use Rattle.std.proofs.Common.{◌≡◌, ◌≢◌, ℕ, ◌≤◌, arith, inl, inr, Bool, true, false, cond, List, [], Option, Some, None, refl, sym, ap, ◌∙◌}
+use Rattle.std.proofs.lemmas.List.{append-nil}
+use Rattle.std.specs.FinMap as finite
+use Rattle.std.specs.Bool.{Decides}
+use Rattle.std.specs.Ordering.{nat_cmp, eq_by_cmp}
+use Rattle.std.specs.Cmp.Lexicographic.{slice_cmp, texts_ties, bytes_decides, nat_list_cmp_total}
+use Rattle.std.proofs.Common.{subst}
+use Rattle.outside.specs.Answers.{OthersStay}
+use Rattle.outside.specs.Files.{Files}
+use Rattle.cells.specs.Run.{State}
+use Rattle.command_line.specs.Command.{RunCommand}
+use Rattle.dist_image.specs.Image.{Distilled}
+use Rattle.image_world.specs.World.{world}
+use Rattle.speculation.specs.World.{World}
+use Rattle.speculation.specs.Engine.{Model}
+use Rattle.schedules.specs.Schedule.{after}
+use Rattle.mssp_tool.specs.declared.speculating.Schedule.{Schedule}
+use Rattle.report.proofs.Gained.{part_before}
+use Rattle.mssp_tool.specs.declared.answer.Answer.{Answer}
+use Rattle.mssp_tool.specs.declared.answer.Answer.TheVariants.{Usage, Absent, StoreFault, SinkFault, Memory, TooLong, Refused, Done, Ran, Budget}
+use Rattle.mssp_tool.specs.Told.{Reads, Puts, Got, OnlyChanges, Written}
+use Rattle.mssp_tool.specs.Speculated.{schedule_of, events_of, IsStop, Unwritten, Stopped, Speculated}
+use Rattle.mssp_tool.specs.Run.{AreRunFiles, Reported, RunFrom, RunCause, start_from, world_from}
+
+-- all was put, and no report was written
+pub unwritten : (m : Model) (name : List ℕ) (store : Reads) (left : Option Files) (out : Puts) (a : Answer) → Got out m.committed.env.output → Unwritten store left name a
+    → Stopped m name store left out a
+unwritten m name store left out (StoreFault s) got h = (got, h)
+unwritten m name store left out Memory got h =
+    (part_before out.told out.left m.committed.env.output [] m.committed.env.output (sym (append-nil m.committed.env.output)) got, h)
+unwritten m name store left out Usage got h = absurd h
+unwritten m name store left out (Absent s) got h = absurd h
+unwritten m name store left out SinkFault got h = absurd h
+unwritten m name store left out (TooLong s) got h = absurd h
+unwritten m name store left out (Refused e) got h = absurd h
+unwritten m name store left out Done got h = absurd h
+unwritten m name store left out (Ran pc end) got h = absurd h
+unwritten m name store left out Budget got h = absurd h
+
+pub unwritten_run : (w : World) (s t : Schedule) (slaves budget : ℕ) (m : Model) (name : List ℕ) (store : Reads) (left : Option Files) (out : Puts) (a : Answer) → s ≡ t
+    → (k : ℕ) × IsStop w (events_of s slaves) budget k × (m ≡ after w (events_of s slaves) k) × Got out (after w (events_of s slaves) k).committed.env.output
+    → Unwritten store left name a → Speculated w (events_of t slaves) budget name store left out a
+unwritten_run w s t slaves budget m name store left out a same (k, stop, is, got) h =
+    subst (λ (x : Schedule). Speculated w (events_of x slaves) budget name store left out a) same (k, stop, unwritten (after w (events_of s slaves) k) name store left out a got h)
+
+-- ---- the files that stay
+
+untied : (other name : List ℕ) → other ≢ name → (b : Bool) → eq_by_cmp (slice_cmp nat_cmp) other name ≡ b → b ≡ false
+untied other name apart false e = refl
+untied other name apart true e =
+    let decides : Decides (eq_by_cmp (slice_cmp nat_cmp) other name) (other ≡ name) = subst (λ t. Decides t (other ≡ name)) (texts_ties other name) (bytes_decides other name) in
+    absurd (apart (decides.0 e))
+
+-- a file that is written leaves the others
+pub others_stay : (told left : Option Files) (name bytes : List ℕ) → Written told left name bytes → OthersStay told left name
+others_stay None left name bytes e = e
+others_stay (Some files) left name bytes e = (
+  finite.insert files name bytes,
+  e,
+  λ other apart. finite.get-insert nat_list_cmp_total files name bytes other
+      ∙ ap (λ t. cond t (Some bytes) (finite.get files other)) (untied other name apart (eq_by_cmp (slice_cmp nat_cmp) other name) refl),
+)
+
+-- no file changed
+same_stay : (told left : Option Files) (name : List ℕ) → left ≡ told → OthersStay told left name
+same_stay None left name e = e
+same_stay (Some files) left name e = (files, e, λ other apart. refl)
+
+pub unchanged : (told left : Option Files) (name : Option (List ℕ)) → left ≡ told → OnlyChanges told left name
+unchanged told left None e = e
+unchanged told left (Some name) e = same_stay told left name e
+
+-- however it stopped, no file but the report has changed
+pub stopped_changes : (m : Model) (name : List ℕ) (store : Reads) (left : Option Files) (out : Puts) (a : Answer) → Stopped m name store left out a → OthersStay store.told left name
+stopped_changes m name store left out (Ran pc end) (got, wrote, is) = others_stay store.told left name _ wrote
+stopped_changes m name store left out Budget (got, wrote, is) = others_stay store.told left name _ wrote
+stopped_changes m name store left out (StoreFault s) (got, (same, fails, others)) = others
+stopped_changes m name store left out SinkFault h = same_stay store.told left name h.1
+stopped_changes m name store left out Memory h = same_stay store.told left name h.1
+stopped_changes m name store left out Usage h = same_stay store.told left name h.1
+stopped_changes m name store left out (Absent s) h = same_stay store.told left name h.1
+stopped_changes m name store left out (TooLong s) h = same_stay store.told left name h.1
+stopped_changes m name store left out (Refused e) h = same_stay store.told left name h.1
+stopped_changes m name store left out Done h = same_stay store.told left name h.1
+
+-- ---- a run behind what it read
+
+-- a count that rose in a part of a call rose in the call
+within_call : (m : Model) (name : List ℕ) (told left : Option Files) (before mid now : ℕ) (out : Puts) (a : Answer) → before ≤ mid
+    → Stopped m name (record { told = told; before = mid; now = now }) left out a → Stopped m name (record { told = told; before = before; now = now }) left out a
+within_call m name told left before mid now out (StoreFault s) l (got, (same, rose, others)) = (got, (same, omega (arith, l, rose), others))
+within_call m name told left before mid now out (Ran pc end) l h = h
+within_call m name told left before mid now out Budget l h = h
+within_call m name told left before mid now out SinkFault l h = h
+within_call m name told left before mid now out Memory l h = h
+within_call m name told left before mid now out Usage l h = h
+within_call m name told left before mid now out (Absent s) l h = h
+within_call m name told left before mid now out (TooLong s) l h = h
+within_call m name told left before mid now out (Refused e) l h = h
+within_call m name told left before mid now out Done l h = h
+
+-- the machine runs in the world of its engine
+pub engine_runs : (r : RunCommand) (name : List ℕ) (s t : State) (im jm : Distilled) (slaves : ℕ) (store : Reads) (left : Option Files) (out : Puts) (a : Answer)
+    → s ≡ t → im ≡ jm → slaves ≡ r.slaves → Speculated (world s im slaves) (events_of (schedule_of r.image) slaves) r.budget name store left out a → Reported t jm r name store left out a
+engine_runs r name s t im jm slaves store left out a same_start same_image same_slaves h =
+    inr (subst (λ (x : State × Distilled × ℕ). Speculated (world x.0 x.1 x.2) (events_of (schedule_of r.image) x.2) r.budget name store left out a) (λ i. (same_start i, same_image i, same_slaves i)) h)
+
+module _ (r : RunCommand) (name : List ℕ) (jm : Distilled) (told told' left : Option Files) (before mid now : ℕ) (out : Puts) (a : Answer) (named : r.report ≡ Some name)
+    (same_files : told' ≡ told) (l : before ≤ mid) where
+  -- the store is as it was told at first
+  first_told : (t : State) → Speculated (world t jm r.slaves) (events_of (schedule_of r.image) r.slaves) r.budget name (record { told = told'; before = mid; now = now }) left out a
+      → Speculated (world t jm r.slaves) (events_of (schedule_of r.image) r.slaves) r.budget name (record { told = told; before = before; now = now }) left out a
+  first_told t h =
+      let here : Speculated (world t jm r.slaves) (events_of (schedule_of r.image) r.slaves) r.budget name (record { told = told; before = mid; now = now }) left out a =
+      subst (λ (d : Option Files). Speculated (world t jm r.slaves) (events_of (schedule_of r.image) r.slaves) r.budget name (record { told = d; before = mid; now = now }) left out a) same_files h in
+      (here.0, here.1, within_call (after (world t jm r.slaves) (events_of (schedule_of r.image) r.slaves) here.0) name told left before mid now out a l here.2)
+
+  pub reported_cause : {s : State} (p i : List ℕ) → s ≡ start_from p i → AreRunFiles told r p jm i → Reported s jm r name (record { told = told'; before = mid; now = now }) left out a
+      → RunCause (record { told = told; before = before; now = now }) left r out a
+  reported_cause p i is fs (inl (m, nothing, stays)) = inl (inr (inr (inr m)), nothing, stays ∙ same_files)
+  reported_cause {s} p i is fs (inr h) =
+      inr (
+        p,
+        i,
+        jm,
+        fs,
+        subst (λ (o : Option (List ℕ)). RunFrom o r (world_from p i jm r.slaves) (record { told = told; before = before; now = now }) left out a) (sym named)
+            (subst (λ (x : State). Speculated (world x jm r.slaves) (events_of (schedule_of r.image) r.slaves) r.budget name (record { told = told; before = before; now = now }) left out a) is (first_told s h)),
+      )
+
+  pub reported_changes : {s : State} → Reported s jm r name (record { told = told'; before = mid; now = now }) left out a → OnlyChanges told left r.report
+  reported_changes (inl (m, nothing, stays)) = unchanged told left r.report (stays ∙ same_files)
+  reported_changes {s} (inr h) =
+      let here = first_told s h in
+      subst (λ (o : Option (List ℕ)). OnlyChanges told left o) (sym named)
+      (stopped_changes (after (world s jm r.slaves) (events_of (schedule_of r.image) r.slaves) here.0) name (record { told = told; before = before; now = now }) left out a here.2)

@@ -1,0 +1,59 @@
+-- What a run comes to where a speculative machine runs and a report is asked for.
+use Rattle.std.specs.Prelude.{◌≡◌, ℕ, ◌+◌, ◌<◌, List, Option, Some, None}
+use Rattle.outside.specs.Answers.{OthersStay}
+use Rattle.outside.specs.Files.{Files}
+use Rattle.speculation.specs.declared.Event.{Event}
+use Rattle.speculation.specs.World.{World}
+use Rattle.speculation.specs.Engine.{Model}
+use Rattle.schedules.specs.Schedule.{in_rounds, alone, after, IsFirstStop, enough}
+use Rattle.schedules.specs.Laws.{StopsAt}
+use Rattle.report.specs.Events.{summary_text}
+use Rattle.mssp_tool.specs.declared.answer.Source.TheVariants as source
+use Rattle.mssp_tool.specs.declared.answer.Answer.{Answer}
+use Rattle.mssp_tool.specs.declared.answer.Answer.TheVariants.{StoreFault, Memory, Ran, Budget}
+use Rattle.mssp_tool.specs.declared.speculating.Schedule.{Schedule}
+use Rattle.mssp_tool.specs.declared.speculating.Schedule.TheVariants.{Rounds, Alone}
+use Rattle.mssp_tool.specs.Told.{Reads, Puts, Fails, Got, Written}
+use Rattle.mssp_tool.specs.Driven.{stands, CutOff}
+
+-- rounds where an image is named, and else serial steps alone
+abbrev pub schedule_of : Option (List ℕ) → Schedule
+schedule_of (Some image) = Rounds
+schedule_of None = Alone
+
+abbrev pub events_of : Schedule → ℕ → ℕ → Event
+events_of Rounds slaves = in_rounds slaves
+events_of Alone slaves = alone
+
+-- so many events are enough to come so far
+abbrev pub most : Schedule → World → ℕ → ℕ
+most Rounds w far = enough w far
+most Alone w far = far
+
+-- all of the output was put, the report was written, and this is where the machine stands
+abbrev pub Completed : Model → List ℕ → Reads → Option Files → Puts → Answer → Type 0
+Completed m name store left out a = Got out m.committed.env.output × Written store.told left name (summary_text m) × (a ≡ stands m.committed)
+
+-- the report was not written: the store failed, and that name has anything or nothing; or there was no memory, and no file has changed
+abbrev pub Unwritten : Reads → Option Files → List ℕ → Answer → Type 0
+Unwritten store left name (StoreFault s) = (s ≡ source.Report) × Fails store × OthersStay store.told left name
+Unwritten store left name Memory = left ≡ store.told
+Unwritten store left name _ = ⊥
+
+-- the machine stopped so: it completed; or all was put, and the report could not be written; or it was cut off, and no file has changed
+abbrev pub Stopped : Model → List ℕ → Reads → Option Files → Puts → Answer → Type 0
+Stopped m name store left out (Ran pc end) = Completed m name store left out (Ran pc end)
+Stopped m name store left out Budget = Completed m name store left out Budget
+Stopped m name store left out (StoreFault s) = Got out m.committed.env.output × Unwritten store left name (StoreFault s)
+Stopped m name store left out a = CutOff out m.committed.env.output a × (left ≡ store.told)
+
+-- k is the least number of events after which it has ended or stands at the budget or past it. It stands there where the sequential run stands, within
+-- the longest task of the budget; and the sequential run ends within the budget exactly where it has ended
+pub record IsStop (w : World) (event : ℕ → Event) (budget k : ℕ) : Type 0 where
+  pub first : IsFirstStop w event budget k
+  pub sequential : StopsAt w event budget k
+  pub near : (after w event k).position < budget + 16384
+
+-- the machine is given the events up to that point, and stopped so
+abbrev pub Speculated : World → (ℕ → Event) → ℕ → List ℕ → Reads → Option Files → Puts → Answer → Type 0
+Speculated w event budget name store left out a = (k : ℕ) × IsStop w event budget k × Stopped (after w event k) name store left out a

@@ -1,0 +1,100 @@
+//! `run`: its files, the machine at its start, and its run.
+ghost use Rattle.std.specs.Prelude.{◌≡◌, ◌≤◌, [], MatchResult, IsNone};
+ghost use Rattle.dist_image.specs.Image.{IsImage};
+ghost use Rattle.command_line.specs.Command.{shown_run};
+ghost use Rattle.mssp_tool.specs.Told.{Reads, Puts, OnlyChanges};
+ghost use Rattle.mssp_tool.specs.Run.{Unready, IsReady, Reported, RunCause};
+ghost use Rattle.seq_machine.specs.States.{state_of};
+
+use crate::answer::Answer;
+use crate::driving::drive;
+use crate::reading::{input_in, named_image_in, program_in};
+use crate::speculating::speculate;
+use command_line::Run;
+use dist_image::Image;
+use engine::Engine;
+use memory::{Memory, PlainMemory};
+use outside::{Sink, Store};
+use seq_machine::{Machine, load};
+use std::alloc::Global;
+
+/// The machine at the start of its run, and what is known of its program.
+#[derive(Drop)]
+struct Prepared<M: Memory> {
+    machine: Machine<M>,
+    image: Image,
+}
+
+/// Reads the files of a run, and gives the machine at its start.
+fn prepare<S: Store, M: Memory>(
+    alloc: Global,
+    store: &mut S,
+    run: &Run<'_>,
+) -> Result<Prepared<M>, Answer>
+    ensures files { S.told store.new ≡ S.told store.old }
+    ensures answer { MatchResult result
+        (λ ready. IsReady (S.told store.old) (shown_run run.now) (state_of M.at ready.machine) ready.image
+        × IsImage ready.image × (ready.machine.position ≡ 0) × IsNone ready.machine.end × (ready.machine.out.items ≡ []))
+        (Unready (record { told = S.told store.old; before = S.faults store.old; now = S.faults store.new }) (shown_run run.now)) }
+    ensures faults { S.faults store.old ≤ S.faults store.new }
+{
+    let program = program_in(alloc, store, run.program)?;
+    let image = match named_image_in(alloc, store, run.image) {
+        Ok(image) => image,
+        Err(answer) => return Err(answer),
+    };
+    let input = match input_in(alloc, store, run.input) {
+        Ok(input) => input,
+        Err(answer) => return Err(answer),
+    };
+    match load(alloc, &program, input) {
+        Ok(machine) => Ok(Prepared { machine, image }),
+        Err(_) => Err(Answer::Memory),
+    }
+}
+
+/// Runs a speculative machine over what is ready, puts its output as it comes, and writes a report of
+/// that name.
+fn run_reported<S: Store, O: Sink, M: Memory>(
+    alloc: Global,
+    store: &mut S,
+    out: &mut O,
+    ready: Prepared<M>,
+    run: &Run<'_>,
+    name: &str,
+) -> Answer
+    requires image { IsImage ready.image }
+    requires position { ready.machine.position ≡ 0 }
+    requires running { IsNone ready.machine.end }
+    requires silent { ready.machine.out.items ≡ [] }
+    ensures { Reported (state_of M.at ready.machine) ready.image (shown_run run.now) name.now
+        (record { told = S.told store.old; before = S.faults store.old; now = S.faults store.new }) (S.told store.new)
+        (record { told = O.told out.old; left = O.told out.new; before = O.faults out.old; now = O.faults out.new })
+        result }
+{
+    match Engine::new(alloc, ready.machine, ready.image, run.slaves) {
+        Ok(mut engine) => speculate(alloc, store, out, &mut engine, run, name),
+        Err(_) => Answer::Memory,
+    }
+}
+
+/// Runs a program, and puts its output as it comes. Where a report is asked for, a speculative
+/// machine runs it: in rounds beside an image, and else by serial steps alone.
+pub fn run<S: Store, O: Sink>(alloc: Global, store: &mut S, out: &mut O, run: &Run<'_>) -> Answer
+    ensures files { OnlyChanges (S.told store.old) (S.told store.new) (shown_run run.now).report }
+    ensures cause { RunCause
+        (record { told = S.told store.old; before = S.faults store.old; now = S.faults store.new })
+        (S.told store.new)
+        (shown_run run.now)
+        (record { told = O.told out.old; left = O.told out.new; before = O.faults out.old; now = O.faults out.new })
+        result }
+{
+    let mut ready: Prepared<PlainMemory> = match prepare(alloc, store, run) {
+        Ok(ready) => ready,
+        Err(answer) => return answer,
+    };
+    match run.report {
+        Some(name) => run_reported(alloc, store, out, ready, run, name),
+        None => drive(alloc, &mut ready.machine, run.budget, out),
+    }
+}
