@@ -17,12 +17,24 @@ one instruction in each block.
 depend on the load of the machine.  It takes the difference of two runs that a budget cuts
 off, after 2,000,000 and after 3,000,000 guest instructions, so the start doesn't count.
 qemu is left out there, since its code is made at run time.
+
+--replay gives 2,000,000 events to `mssp replay`, over a loop without end and an image of
+it that was made by hand, and prints millions of events per second: events that find
+nothing to do; serial steps, beside `run` on as many; and rounds, in which the master
+and four slaves run ahead. What is put goes nowhere. Each list is replayed once more
+before, and the lines that come are counted: one for each event, and eight of the summary.
+
+--rounds runs that loop for 2,000,000 instructions: without an image, by serial steps alone
+that a report sums up, and in rounds beside the image, with 1, 4 and 16 slaves.  It prints
+millions of committed instructions per second, where the report says how many were
+committed, and of how many of them tasks took care.
 """
 import argparse
 import hashlib
 import os
 import re
 import shutil
+import struct
 import subprocess
 import sys
 import tempfile
@@ -33,6 +45,12 @@ REPOSITORY = Path(__file__).resolve().parent.parent
 EXAMPLES = REPOSITORY / "examples"
 PROGRAMS = ("mix", "shuffle")
 WINDOW = (2_000_000, 3_000_000)
+
+# adds 1 to x5 and jumps back to that
+LOOP = (0x00128293, 0xFFDFF06F)
+EVENTS = 2_000_000
+ROUND = ("restart", "serial", "master", "master", "master", "master",
+         "slave 0", "slave 1", "slave 2", "slave 3", "commit")
 
 
 class Program:
@@ -148,6 +166,89 @@ def show_host_instructions(engines, programs):
         print(f"{program.name:24}" + "".join(counts), flush=True)
 
 
+def numbers(*all_numbers):
+    return struct.pack(f"<{len(all_numbers)}I", *all_numbers)
+
+
+def loop_program():
+    """The ELF file that loads the loop at 0x00010000 and starts there."""
+    size = 4 * len(LOOP)
+    header = numbers(0x464C457F, 0x00010101, 0, 0, 0x00F30002, 1, 0x10000, 52, 0, 0, 0x00200034, 1, 0)
+    return header + numbers(1, 84, 0x10000, 0x10000, size, size, 5, 4) + numbers(*LOOP)
+
+
+def loop_image():
+    """An image of the loop: its head is an anchor, at which a task passes 16 times."""
+    header = numbers(0x5053534D, 1, 64, 3, 1, 2, 0)
+    slots = numbers(2, 0, 0, 0, 0x10000, LOOP[0], 0, 0x10004, LOOP[1])
+    notes = numbers(0x10000, 0, 0, 0, 0x10004, 2, 0, 0)
+    return header + slots + numbers(0x10000, 0, 16) + notes
+
+
+def seconds_of(words, status):
+    """The processor seconds of a run whose output goes nowhere."""
+    child = subprocess.Popen(words, stdin=subprocess.DEVNULL, stdout=subprocess.DEVNULL,
+                             stderr=subprocess.DEVNULL)
+    _, ended, used = os.wait4(child.pid, 0)
+    child.returncode = os.waitstatus_to_exitcode(ended)
+    if child.returncode != status:
+        sys.exit(f"bench.py: {' '.join(words)}: status {child.returncode} for {status}")
+    return used.ru_utime + used.ru_stime
+
+
+def show_replays(binary, runs):
+    rounds = EVENTS // len(ROUND)
+    lists = {
+        "idle": (EVENTS, f"{EVENTS} commit\n"),
+        "serial": (EVENTS, f"{EVENTS} serial\n"),
+        "rounds": (rounds * len(ROUND), "".join(f"1 {event}\n" for event in ROUND) * rounds),
+    }
+    print(f"millions of events per second, best of {runs} runs (load {os.getloadavg()[0]:.1f})")
+    with tempfile.TemporaryDirectory() as folder:
+        program, image, events = (os.path.join(folder, name) for name in ("elf", "image", "events"))
+        Path(program).write_bytes(loop_program())
+        Path(image).write_bytes(loop_image())
+        for name, (count, text) in lists.items():
+            Path(events).write_text(text)
+            words = [binary, "replay", program, image, events]
+            put = subprocess.run(words, stdout=subprocess.PIPE, check=True).stdout
+            if put.count(b"\n") != count + 8:
+                sys.exit(f"bench.py: {name}: {put.count(10)} lines for {count} events")
+            least = min(seconds_of(words, 0) for _ in range(runs))
+            print(f"{'replay ' + name:24}{count:14}{count / least / 1e6:14.1f}", flush=True)
+        words = [binary, "run", program, "--budget", str(EVENTS)]
+        least = min(seconds_of(words, 120) for _ in range(runs))
+        print(f"{'run':24}{EVENTS:14}{EVENTS / least / 1e6:14.1f}")
+
+
+def reported(words, report):
+    """The processor seconds of a run that its budget cuts off, the instructions that were
+    committed, and how many of them by tasks."""
+    seconds = seconds_of(words, 120)
+    told = dict(line.rsplit(" ", 1) for line in Path(report).read_text().splitlines())
+    return seconds, int(told["position"]), int(told["by-tasks"])
+
+
+def show_rounds(binary, runs):
+    print(f"millions of committed instructions per second, best of {runs} runs "
+          f"(load {os.getloadavg()[0]:.1f})")
+    print(f"{'':24}{'instructions':>14}{'by tasks':>14}{'speed':>14}")
+    with tempfile.TemporaryDirectory() as folder:
+        program, image, report = (os.path.join(folder, name) for name in ("elf", "image", "report"))
+        Path(program).write_bytes(loop_program())
+        Path(image).write_bytes(loop_image())
+        alone = [binary, "run", program, "--budget", str(EVENTS)]
+        least = min(seconds_of(alone, 120) for _ in range(runs))
+        print(f"{'run':24}{EVENTS:14}{0:14}{EVENTS / least / 1e6:14.1f}", flush=True)
+        kinds = {"serial steps alone": []}
+        for slaves in (1, 4, 16):
+            kinds[f"rounds, slaves {slaves}"] = ["--image", image, "--slaves", str(slaves)]
+        for name, options in kinds.items():
+            words = [*alone, "--report", report, *options]
+            best = min(reported(words, report) for _ in range(runs))
+            print(f"{name:24}{best[1]:14}{best[2]:14}{best[1] / best[0] / 1e6:14.2f}", flush=True)
+
+
 def main():
     parser = argparse.ArgumentParser(
         description=__doc__, formatter_class=argparse.RawDescriptionHelpFormatter)
@@ -155,11 +256,17 @@ def main():
                         default=REPOSITORY / "crates" / "mssp" / "out" / "mssp")
     parser.add_argument("--runs", metavar="N", type=int, default=3, help="runs of each program (3)")
     parser.add_argument("--callgrind", action="store_true", help="count host instructions too")
+    parser.add_argument("--replay", action="store_true", help="time replays alone")
+    parser.add_argument("--rounds", action="store_true", help="time runs beside an image alone")
     words = parser.parse_args()
     if words.runs < 1:
         parser.error("--runs has to be at least 1")
     if not os.access(words.binary, os.X_OK) or os.path.isdir(words.binary):
         parser.error(f"{words.binary} is no program")
+    if words.replay:
+        return show_replays(os.path.abspath(words.binary), words.runs)
+    if words.rounds:
+        return show_rounds(os.path.abspath(words.binary), words.runs)
     programs = [Program(name) for name in PROGRAMS]
     for program in programs:
         if not program.is_counted():

@@ -109,6 +109,28 @@ for file in expected/*.status; do
   passed=$((passed + 1))
 done
 
+# speculation/NAME.img with speculation/NAME.events: the replay is speculation/NAME.out; the run beside the image has the
+# status of the program alone, and its report is speculation/NAME.report
+speculates() {
+  local folder=speculation
+  if ! "$binary" replay $folder/count.elf "$folder/$1.img" "$folder/$1.events" </dev/null 2>&1 | cmp - "$folder/$1.out"; then
+    echo "FAILED replay with $1.img"
+    return 1
+  fi
+  "$binary" run $folder/count.elf --image "$folder/$1.img" --report "$room/report" </dev/null >"$room/out" 2>&1
+  status=$?
+  if [ "$status" != 10 ] || [ -s "$room/out" ] || ! cmp "$room/report" "$folder/$1.report"; then
+    echo "FAILED run with $1.img: status $status for 10"
+    return 1
+  fi
+}
+
+if [ -n "$binary" ]; then
+  for file in speculation/*.img; do
+    if speculates "$(basename "$file" .img)"; then passed=$((passed + 1)); else failed=$((failed + 1)); fi
+  done
+fi
+
 [ -z "$uncounted" ] || echo "not the counted programs, so without the budgets:$uncounted"
 echo "$passed passed, $failed failed"
 [ "$failed" = 0 ]
