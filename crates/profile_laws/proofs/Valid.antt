@@ -17,7 +17,7 @@ use Rattle.profile_laws.proofs.Kept.{row, row_pc, pcs_apart, unseen, rows_map}
 use Rattle.profile_laws.proofs.Fields.{executed_is, next_row}
 use Rattle.profile_laws.proofs.Law.{each_row, row_is, pcs_of_rows}
 
-count_both : (a b : ℕ → Bool) (n : ℕ) → count_below (λ i. a i && b i) n ≤ count_below a n
+pub count_both : (a b : ℕ → Bool) (n : ℕ) → count_below (λ i. a i && b i) n ≤ count_below a n
 unfolding count_below
 count_both a b zero = omega arith
 count_both a b (suc n) = go (a n) (b n) (count_both a b n)

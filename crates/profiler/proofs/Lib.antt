@@ -1,0 +1,6 @@
+pub mod Entries
+pub mod Filled
+pub mod Inserted
+pub mod ReadBack
+pub mod Counting
+pub mod Made

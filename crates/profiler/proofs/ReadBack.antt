@@ -1,0 +1,140 @@
+-- Bytes that are read back one after another.
+use Rattle.std.proofs.Common.{◌≡◌, ℕ, zero, suc, ◌+◌, ◌-◌, ◌%◌, ◌^◌, ◌<◌, ◌≤◌, ◌==◌, Bool, true, false, cond, All, inl, inr, List, [], ◌∷◌, length, refl, sym, ap, ◌∙◌, subst, arith}
+use Rattle.std.proofs.lemmas.List.Elements.{All-head, All-tail, All-cons}
+use Rattle.std.proofs.lemmas.List.Sums.{sum_by-cons}
+use Rattle.profile_data.specs.Profile.{Tally, target_count}
+use Rattle.fitting.specs.Claims.{among}
+use Rattle.profile_laws.specs.Profiles.{IsWide}
+use Rattle.profile_laws.specs.Tally.{places, read_back, marked, updated, as_read, Kept}
+use Rattle.profiler.specs.Rows.{HasRoom}
+
+places_next : (n a : ℕ) → places (suc n) a ≡ a % 2 ^ 32 ∷ places n (a + 1)
+unfolding places
+places_next n a = refl
+
+-- one more byte was read back, and others are still to do
+pub read_more : (w : ℕ → ℕ) (n a i : ℕ) (ts us : List Tally) → i < n → us ≡ marked (w ((a + i) % 2 ^ 32)) ts
+    → read_back w (places (n - (i + 1)) (a + (i + 1))) us ≡ read_back w (places (n - i) (a + i)) ts
+read_more w n a i ts us lt is =
+    let k : n - i ≡ suc (n - (i + 1)) = omega arith in
+    let p : a + (i + 1) ≡ a + i + 1 = omega arith in
+    ap (λ vs. read_back w (places (n - (i + 1)) (a + (i + 1))) vs) is
+    ∙ ap (λ b. read_back w (places (n - (i + 1)) b) (marked (w ((a + i) % 2 ^ 32)) ts)) p
+    ∙ sym (ap (λ m. read_back w (places m (a + i)) ts) k ∙ ap (λ ms. read_back w ms ts) (places_next (n - (i + 1)) (a + i)))
+
+pub read_all : (w : ℕ → ℕ) (n a i : ℕ) (ts us : List Tally) → n ≤ i → read_back w (places (n - i) (a + i)) ts ≡ us → ts ≡ us
+unfolding places
+read_all w n a i ts us le h = ap (λ m. read_back w (places m (a + i)) ts) (let e : 0 ≡ n - i = omega arith in e) ∙ h
+
+-- a mark that is not 0
+pub marked_at : (w pc : ℕ) (ts : List Tally) → w ≡ pc + 1 → marked w ts ≡ marked (suc pc) ts
+marked_at w pc ts e = ap (λ v. marked v ts) (e ∙ (let s : pc + 1 ≡ suc pc = omega arith in s))
+
+pub no_places : (n from a : ℕ) → n ≡ 0 → among (places n from) a ≡ false
+unfolding places
+no_places zero from a e = refl
+no_places (suc n) from a e = absurd (omega arith)
+
+-- ---- what stays when a row is read back
+
+module _ (pc : ℕ) where
+  same_targets : (ts : List Tally) → target_count (updated pc as_read ts) ≡ target_count ts
+  same_targets [] = refl
+  same_targets (t ∷ ts) = go (t.pc == pc) (same_targets ts)
+    where
+      go : (b : Bool) → target_count (updated pc as_read ts) ≡ target_count ts → target_count (cond b (as_read t ∷ ts) (t ∷ updated pc as_read ts)) ≡ target_count (t ∷ ts)
+      go true rest =
+          let a = sum_by-cons (λ (x : Tally). length x.targets) (as_read t) ts in
+          let b = sum_by-cons (λ (x : Tally). length x.targets) t ts in
+          omega arith
+      go false rest =
+          let a = sum_by-cons (λ (x : Tally). length x.targets) t (updated pc as_read ts) in
+          let b = sum_by-cons (λ (x : Tally). length x.targets) t ts in
+          omega arith
+
+  same_length : (ts : List Tally) → length (updated pc as_read ts) ≡ length ts
+  same_length [] = refl
+  same_length (t ∷ ts) = go (t.pc == pc) (same_length ts)
+    where
+      go : (b : Bool) → length (updated pc as_read ts) ≡ length ts → length (cond b (as_read t ∷ ts) (t ∷ updated pc as_read ts)) ≡ length (t ∷ ts)
+      go true rest = omega arith
+      go false rest = omega arith
+
+  same_room : (ts : List Tally) → All HasRoom ts → All HasRoom (updated pc as_read ts)
+  same_room [] room = room
+  same_room (t ∷ ts) room = go (t.pc == pc) (same_room ts (All-tail HasRoom t ts room))
+    where
+      first : HasRoom t
+      first = All-head HasRoom t ts room
+
+      go : (b : Bool) → All HasRoom (updated pc as_read ts) → All HasRoom (cond b (as_read t ∷ ts) (t ∷ updated pc as_read ts))
+      go true rest =
+          All-cons HasRoom (as_read t) ts (record { executed = first.executed; taken = first.taken; targets_rise = first.targets_rise }) (All-tail HasRoom t ts room)
+      go false rest = All-cons HasRoom t (updated pc as_read ts) first rest
+
+-- the numbers of rows and of targets, and the room
+pub record Stays (ts us : List Tally) : Type 0 where
+  pub targets : target_count us ≡ target_count ts
+  pub rows : length us ≡ length ts
+  pub room : All HasRoom ts → All HasRoom us
+
+mark_stays : (w : ℕ) (ts : List Tally) → Stays ts (marked w ts)
+mark_stays zero ts = record { targets = refl; rows = refl; room = λ h. h }
+mark_stays (suc pc) ts = record { targets = same_targets pc ts; rows = same_length pc ts; room = same_room pc ts }
+
+pub read_back_stays : (w : ℕ → ℕ) (ms : List ℕ) (ts : List Tally) → Stays ts (read_back w ms ts)
+read_back_stays w [] ts = record { targets = refl; rows = refl; room = λ h. h }
+read_back_stays w (a ∷ ms) ts =
+    let first = mark_stays (w a) ts in
+    let rest = read_back_stays w ms (marked (w a) ts) in
+    record { targets = rest.targets ∙ first.targets; rows = rest.rows ∙ first.rows; room = λ h. rest.room (first.room h) }
+
+-- after the bytes of the word and those of a load
+pub twice_stays : (w : ℕ → ℕ) (ms ns : List ℕ) (ts us vs : List Tally) → us ≡ read_back w ms ts → vs ≡ read_back w ns us → Stays ts vs
+twice_stays w ms ns ts us vs e f =
+    subst (Stays ts) (sym (f ∙ ap (read_back w ns) e))
+    (let a = read_back_stays w ms ts in let b = read_back_stays w ns (read_back w ms ts) in
+    record { targets = b.targets ∙ a.targets; rows = b.rows ∙ a.rows; room = λ h. b.room (a.room h) })
+
+pub narrow_stays : (ts us : List Tally) → Stays ts us → (IsWide ts → ⊥) → IsWide us → ⊥
+narrow_stays ts us same narrow (inl h) = narrow (inl (let e = same.rows in omega arith))
+narrow_stays ts us same narrow (inr h) = narrow (inr (let e = same.targets in omega arith))
+
+-- what is kept, part by part
+pub kept_is : (a b : List Tally) (f g : ℕ → ℕ) → a ≡ b → ((n : ℕ) → f n ≡ g n) → let k : Kept = record { rows = a; writers = f } in let l : Kept = record { rows = b; writers = g } in k ≡ l
+kept_is a b f g e h = λ i. record { rows = e i; writers = λ n. h n i }
+
+pub nothing : (w : ℕ → ℕ) (n a : ℕ) (ts : List Tally) → n ≡ 0 → ts ≡ read_back w (places n a) ts
+unfolding places
+nothing w zero a ts e = refl
+nothing w (suc n) a ts e = absurd (omega arith)
+
+-- bytes without a mark
+pub unmarked : (w : ℕ → ℕ) (n a : ℕ) (ts : List Tally) → n ≤ 4 → ((k : ℕ) → k < 4 → w ((a + k) % 2 ^ 32) ≡ 0) → ts ≡ read_back w (places n a) ts
+unfolding places
+unmarked w n a ts le none =
+    let start : a + 0 ≡ a = omega arith in
+    go n 0 (let e : n + 0 ≤ 4 = omega arith in e) ∙ ap (λ b. read_back w (places n b) ts) start
+  where
+    go : (m k : ℕ) → m + k ≤ 4 → ts ≡ read_back w (places m (a + k)) ts
+    go zero k le = refl
+    go (suc m) k le =
+        let here : w ((a + k) % 2 ^ 32) ≡ 0 = none k (omega arith) in
+        let next : a + (k + 1) ≡ a + k + 1 = omega arith in
+        go m (k + 1) (omega arith)
+        ∙ ap (λ b. read_back w (places m b) ts) next
+        ∙ sym (ap (λ v. read_back w (places m (a + k + 1)) (marked v ts)) here)
+
+-- a mark that is noted once more
+pub marked_again : (w : ℕ) (ts : List Tally) → marked w (marked w ts) ≡ marked w ts
+marked_again zero ts = refl
+marked_again (suc pc) ts = again ts
+  where
+    again : (ts : List Tally) → updated pc as_read (updated pc as_read ts) ≡ updated pc as_read ts
+    again [] = refl
+    again (t ∷ ts) = go (t.pc == pc) refl (again ts)
+      where
+        go : (b : Bool) → (t.pc == pc) ≡ b → updated pc as_read (updated pc as_read ts) ≡ updated pc as_read ts
+            → updated pc as_read (cond b (as_read t ∷ ts) (t ∷ updated pc as_read ts)) ≡ cond b (as_read t ∷ ts) (t ∷ updated pc as_read ts)
+        go true e rest = ap (λ c. cond c (as_read (as_read t) ∷ ts) (as_read t ∷ updated pc as_read ts)) e
+        go false e rest = ap (λ c. cond c (as_read t ∷ updated pc as_read ts) (t ∷ updated pc as_read (updated pc as_read ts))) e ∙ ap (λ us. t ∷ us) rest

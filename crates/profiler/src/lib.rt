@@ -1,0 +1,19 @@
+//! Profiles of programs: a program is run, and what it did is counted at each address.
+//!
+//! The run goes on by one step after another. What a step does is seen from its word and the
+//! registers before it, and is kept in a tally: the rows so far, and of each byte the store that wrote
+//! it last.
+#![tactic(auto)]
+
+mod error;
+mod marks;
+mod profiling;
+mod rows;
+mod tally;
+mod visit;
+
+pub use error::ProfilingErr;
+pub use profiling::profile;
+
+#[cfg(test)]
+mod tests;
