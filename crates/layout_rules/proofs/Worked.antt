@@ -1,0 +1,38 @@
+-- The worked rows, by computing.
+use Rattle.std.proofs.Common.{refl}
+use Rattle.distill_rules.specs.Analysed.{analysed}
+use Rattle.distill_rules.specs.Rounds.{solved}
+use Rattle.layout_rules.specs.Images.{distilled}
+use Rattle.layout_rules.specs.Rows.{CountRows, AimRows, NeverRows, StoreRows, InputRows, BareRows}
+
+pub counts : CountRows
+counts = record { worked = refl; greatest = refl; least = refl; one_arrival_a_step = refl; no_arrival = refl }
+
+pub aims : AimRows
+aims = record {
+  to_itself = refl;
+  fallen_side_cut = refl;
+  taken_side_cut = refl;
+  ahead = refl;
+  back = refl;
+  jump_ahead = refl;
+  linked = refl;
+  around = refl;
+  no_jump = refl;
+}
+
+pub never : NeverRows
+unfolding analysed solved distilled
+never = refl
+
+pub store : StoreRows
+unfolding analysed solved distilled
+store = refl
+
+pub input : InputRows
+unfolding analysed solved distilled
+input = record { slots = refl; anchors = refl; assumptions = refl }
+
+pub bare : BareRows
+unfolding analysed solved distilled
+bare = record { looped = refl; no_rows = refl; all_changed = refl }

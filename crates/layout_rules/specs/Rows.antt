@@ -1,0 +1,86 @@
+-- Worked rows: how many arrivals a task spans, where tasks may begin, and the images of small programs.
+use Rattle.std.specs.Prelude.{◌≡◌, ℕ, true, false, List, [], ◌∷◌, Some, None}
+use Rattle.rv_word.specs.Meaning.{meaning}
+use Rattle.rv_run.specs.Programs.{frame}
+use Rattle.rv_run.specs.Start.{Loaded, program_word}
+use Rattle.dist_image.specs.declared.image.Slot.TheVariants.{Exec, Fork}
+use Rattle.dist_image.specs.Image.{Cut, Code, Within, Span, Distilled, nothing_known}
+use Rattle.profile_data.specs.Profile.{Tally, Profiled}
+use Rattle.fitting.specs.Rows.{anchor, never_true, never_image, store_for_write, store_image, always_taken, taken_image}
+use Rattle.distill_rules.specs.Rows.{row, never_rows, store_rows}
+use Rattle.layout_rules.specs.declared.Options.{Options}
+use Rattle.layout_rules.specs.Places.{count_by, aim_by}
+use Rattle.layout_rules.specs.Images.{distilled}
+
+pub record CountRows : Type 0 where
+  pub worked : count_by 8 45 11 ≡ 2
+  pub greatest : count_by 65_536 1 1 ≡ 64
+  pub least : count_by 1 1_000 1 ≡ 1
+  pub one_arrival_a_step : count_by 200 10 10 ≡ 64
+  pub no_arrival : count_by 200 0 0 ≡ 64
+
+pub record AimRows : Type 0 where
+  -- branches to their own pc, and ahead
+  pub to_itself : aim_by None 0x00010000 (meaning 0x00000063) ≡ Some 0x00010000
+  pub fallen_side_cut : aim_by (Some false) 0x00010000 (meaning 0x00000063) ≡ Some 0x00010000
+  pub taken_side_cut : aim_by (Some true) 0x00010000 (meaning 0x00000063) ≡ None
+  pub ahead : aim_by None 0x00010008 (meaning 0x00031863) ≡ None
+  -- jumps back, ahead, and ahead with a link
+  pub back : aim_by None 0x00010010 (meaning 0xFF5FF06F) ≡ Some 0x00010004
+  pub jump_ahead : aim_by None 0x00010014 (meaning 0x0080006F) ≡ None
+  pub linked : aim_by None 0x00010014 (meaning 0x008000EF) ≡ Some 0x0001001c
+  -- a jump back past the address 0 goes to a greater address
+  pub around : aim_by None 0x00000004 (meaning 0xFF5FF06F) ≡ None
+  pub no_jump : aim_by None 0x00010000 (meaning 0x00000073) ≡ None
+
+abbrev pub options : ℕ → ℕ → ℕ → ℕ → Options
+options rare hot goal limit = record { rare = rare; hot = hot; goal = goal; limit = limit }
+
+abbrev pub ended : ℕ → List Tally → Profiled
+ended steps rows = record { steps = steps; ended = true; rows = rows }
+
+abbrev pub image_of : Loaded → Profiled → Options → Distilled
+image_of p f o = distilled (program_word p) 0x00010000 f o
+
+-- a comparison that never holds, in a loop
+abbrev pub NeverRows : Type 0
+NeverRows = image_of never_true (ended 45 never_rows) (options 0 2 8 64) ≡ never_image
+
+-- a store of a byte that nothing loads, and a write
+abbrev pub StoreRows : Type 0
+StoreRows =
+    image_of store_for_write (ended 10 store_rows) (options 10 2 200 4096)
+    ≡ record store_image { limit = 4096; anchors = anchor 0x00010000 0 40 ∷ anchor 0x0001001c 2 40 ∷ [] }
+
+-- ---- a byte of input decides whether the loop is left early
+
+abbrev pub input_decides : Loaded
+input_decides = frame (
+    0x00000513 ∷ 0x000205B7 ∷ 0x00100613 ∷ 0x03F00893 ∷ 0x00000073 ∷ 0x00058303 ∷ 0x00A00293 ∷ 0x00031A63 ∷ 0xFFF28293 ∷ 0xFE029CE3
+    ∷ 0x00000513 ∷ 0x0080006F ∷ 0x00500513 ∷ 0x05D00893 ∷ 0x00000073 ∷ [])
+
+-- of its run without input
+abbrev pub input_rows : List Tally
+input_rows =
+    row 0x00010000 1 0 false ∷ row 0x00010004 1 0 false ∷ row 0x00010008 1 0 false ∷ row 0x0001000c 1 0 false ∷ row 0x00010010 1 0 false
+    ∷ row 0x00010014 1 0 false ∷ row 0x00010018 1 0 false ∷ row 0x0001001c 10 0 false ∷ row 0x00010020 10 0 false ∷ row 0x00010024 10 9 false
+    ∷ row 0x00010028 1 0 false ∷ row 0x0001002c 1 0 false ∷ row 0x00010034 1 0 false ∷ row 0x00010038 1 0 false ∷ []
+
+abbrev pub input_image : Distilled
+input_image = image_of input_decides (ended 41 input_rows) (options 0 2 6 64)
+
+pub record InputRows : Type 0 where
+  pub slots : input_image.slots
+      ≡ Fork 0 ∷ Exec 0x00010010 0x00000073
+      ∷ Fork 1 ∷ Exec 0x00010014 0x00058303 ∷ Exec 0x00010018 0x00A00293
+      ∷ Fork 2 ∷ Exec 0x00010020 0xFFF28293 ∷ Exec 0x00010024 0xFE029CE3 ∷ Exec 0x0001002c 0x0080006F ∷ Exec 0x00010038 0x00000073 ∷ []
+  pub anchors : input_image.anchors ≡ anchor 0x00010000 0 2 ∷ anchor 0x00010014 2 2 ∷ anchor 0x0001001c 5 2 ∷ []
+  pub assumptions : input_image.assumptions ≡ Cut 0x0001001c true ∷ Code ∷ Within ∷ Span ∷ []
+
+-- ---- a loop whose branch never falls through is passed by a Go; and profiles in which nothing is analysed
+
+pub record BareRows : Type 0 where
+  pub looped : image_of always_taken (ended 10 (row 0x00010000 5 0 false ∷ row 0x00010004 5 5 false ∷ [])) (options 0 2 2 16) ≡ taken_image
+  pub no_rows : image_of always_taken (ended 0 []) (options 0 2 2 16) ≡ record nothing_known { assumptions = Code ∷ Within ∷ Span ∷ [] }
+  pub all_changed : image_of always_taken (ended 1 (record (row 0x00010000 1 0 false) { changed = true } ∷ [])) (options 0 2 2 16)
+      ≡ record nothing_known { assumptions = Code ∷ Within ∷ Span ∷ [] }
