@@ -1,0 +1,10 @@
+pub mod Tables
+pub mod Picked
+pub mod Ordered
+pub mod Chosen
+pub mod Counted
+pub mod Limits
+pub mod Assumed
+pub mod Ways
+pub mod Valid
+pub mod Laws
