@@ -1,0 +1,10 @@
+pub mod Puts
+pub mod Early
+pub mod Stops
+pub mod Sames
+pub mod Looked
+pub mod Watched
+pub mod Turns
+pub mod Judged
+pub mod Quiet
+pub mod Placed

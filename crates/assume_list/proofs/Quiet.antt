@@ -1,0 +1,158 @@
+-- Where nothing that is seen of a position can fail, nothing does.
+use Rattle.std.proofs.Common.{◌≡◌, inl, inr, ℕ, zero, suc, ◌+◌, ◌<◌, ◌≤◌, Bool, true, false, not, ◌||◌, ◌&&◌, cond, List, [], ◌∷◌, map, length, get_or, Option, Some, None, refl, sym, ap, ◌∙◌, subst, ⊎_elim, true≢false, arith}
+use Rattle.std.specs.Prelude.{nat_eq, slice_get, is_none, Ok, Err}
+use Rattle.std.specs.List.{list_any}
+use Rattle.std.specs.List.Sorted.{IsStrictlyIncreasing}
+use Rattle.std.specs.Ordering.{nat_cmp}
+use Rattle.std.specs.List.Sorted.{IsBinarySearchResult}
+use Rattle.std.proofs.lemmas.Bool.{ne_eqb, cases_eq, cases_lt, or_left, or_right}
+use Rattle.std.proofs.lemmas.List.{get_or-map, length-map}
+use Rattle.dist_image.specs.declared.image.Assumption.{Assumption}
+use Rattle.dist_image.specs.Image.{Premise, Cut, Targets, Dead, Code, Within, Span, premise, key_of}
+use Rattle.dist_image.proofs.Search.{rising, found_has, absent}
+use Rattle.fitting.specs.Claims.{among}
+use Rattle.assume_laws.specs.Looks.{Look, is_side, fails_by, first_from}
+use Rattle.assume_list.specs.Sights.{is_code, is_within}
+
+-- ---- lists
+
+pub listed_any : (test : Premise → Bool) (xs : List Premise) (k : ℕ) (x : Premise) → slice_get xs k ≡ Some x → test x ≡ true → list_any test xs ≡ true
+listed_any test [] k x e h = absurd (cc)
+listed_any test (y ∷ ys) zero x e h = or_left (test y) _ (ap test (same y x e) ∙ h)
+  where
+    same : (y x : Premise) → ◌≡◌ {A = Option Premise} (Some y) (Some x) → y ≡ x
+    same y x e = cc
+listed_any test (y ∷ ys) (suc k) x e h = or_right (test y) _ (listed_any test ys k x e h)
+
+pub none_first : (f : Premise → Bool) (n : ℕ) (xs : List Premise) → ((k : ℕ) (x : Premise) → slice_get xs k ≡ Some x → f x ≡ false) → None ≡ first_from f n xs
+none_first f n [] e = refl
+none_first f n (x ∷ xs) e = none_first f (suc n) xs (λ k y at. e (suc k) y at) ∙ ap (λ b. cond b (Some n) (first_from f (suc n) xs)) (sym (e 0 x refl))
+
+-- ---- a search by key
+
+keys_same : (xs : List Assumption) → map key_of (map premise xs) ≡ map (λ x. key_of (premise x)) xs
+keys_same [] = refl
+keys_same (x ∷ xs) = ap (λ ks. key_of (premise x) ∷ ks) (keys_same xs)
+
+pub keys_of : (ps : List Premise) (xs : List Assumption) → ps ≡ map premise xs → IsStrictlyIncreasing (map key_of ps) → IsStrictlyIncreasing (map (λ x. key_of (premise x)) xs)
+keys_of ps xs e rise = subst IsStrictlyIncreasing (ap (map key_of) e ∙ keys_same xs) rise
+
+module _ (d : Assumption) where
+  is_entry : (xs : List Assumption) (k : ℕ) (x : Premise) → slice_get (map premise xs) k ≡ Some x → (k < length xs) × (premise (get_or xs k d) ≡ x)
+  is_entry [] k x e = absurd (cc)
+  is_entry (y ∷ ys) zero x e = (omega arith, same (premise y) x e)
+    where
+      same : (y x : Premise) → ◌≡◌ {A = Option Premise} (Some y) (Some x) → y ≡ x
+      same y x e = cc
+  is_entry (y ∷ ys) (suc k) x e = let r = is_entry ys k x e in let l = r.0 in (omega (arith, l), r.1)
+
+  module _ (xs : List Assumption) (rise : IsStrictlyIncreasing (map (λ x. key_of (premise x)) xs)) (wanted : ℕ) where
+    keys_rise : (i j : ℕ) → i < j → j < length xs → key_of (premise (get_or xs i d)) < key_of (premise (get_or xs j d))
+    keys_rise i j lt within =
+        let f : Assumption → ℕ = (λ x. key_of (premise x)) in
+        let long = length-map xs f in
+        let a = get_or-map f xs i d 0 (omega (arith, lt, within)) in
+        let b = get_or-map f xs j d 0 within in
+        let up = rising (map f xs) rise i j lt (omega (arith, long, within)) in
+        omega (arith, up, a, b)
+
+    one_place : (i j : ℕ) → i < length xs → j < length xs → key_of (premise (get_or xs i d)) ≡ key_of (premise (get_or xs j d)) → i ≡ j
+    one_place i j l m e = elim (cases_lt i j) [
+      | inl below ↦ let up = keys_rise i j below m in absurd (omega (arith, up, e))
+      | inr above ↦ ⊎_elim (λ (s : i ≡ j). s) (λ (ne : i ≡ j → ⊥). let up = keys_rise j i (omega (arith, above, ne)) l in absurd (omega (arith, up, e))) (cases_eq i j)
+    ]
+
+    -- the entry at the place where the search ends is the one with the key
+    pub found_there : (place k : ℕ) (x : Premise) → place < length xs → IsBinarySearchResult (λ x. nat_cmp (key_of (premise x)) wanted) xs (Ok place)
+        → slice_get (map premise xs) k ≡ Some x → key_of x ≡ wanted → premise (get_or xs place d) ≡ x
+    found_there place k x l found at is =
+        let entry = is_entry xs k x at in
+        let here = found_has (λ x. key_of (premise x)) d wanted xs rise place found in
+        let there : key_of (premise (get_or xs k d)) ≡ wanted = ap key_of entry.1 ∙ is in
+        ap (λ n. premise (get_or xs n d)) (one_place place k l entry.0 (here ∙ sym there)) ∙ entry.1
+
+    -- where it ends at none, there is none
+    pub not_there : (place k : ℕ) (x : Premise) → place ≤ length xs → IsBinarySearchResult (λ x. nat_cmp (key_of (premise x)) wanted) xs (Err place)
+        → slice_get (map premise xs) k ≡ Some x → key_of x ≡ wanted → ⊥
+    not_there place k x l parted at is =
+        let entry = is_entry xs k x at in
+        absent (λ x. key_of (premise x)) d wanted xs rise place l parted k entry.0 (ap key_of entry.1 ∙ is)
+
+-- ---- each kind
+
+no_side : (taken : Bool) (o : Option Bool) → is_none o ≡ true → is_side taken o ≡ false
+no_side taken (Some b) h = absurd (true≢false (sym h))
+no_side true None h = refl
+no_side false None h = refl
+
+and_not : (a b : Bool) → (a && (not true && b)) ≡ false
+and_not true b = refl
+and_not false b = refl
+
+and_none : (a b c : Bool) → c ≡ false → (a && (b && c)) ≡ false
+and_none true true c h = h
+and_none true false c h = refl
+and_none false b c h = refl
+
+-- a cut fails nowhere where the instruction stops, or is no branch
+pub cut_stops : (v : Look) (at : ℕ) (taken : Bool) → v.stops ≡ true → fails_by v (Cut at taken) ≡ false
+cut_stops v at taken h = ap (λ b. nat_eq v.pc at && (not b && is_side taken v.side)) h ∙ and_not (nat_eq v.pc at) (is_side taken v.side)
+
+pub cut_no_branch : (v : Look) (at : ℕ) (taken : Bool) → is_none v.side ≡ true → fails_by v (Cut at taken) ≡ false
+cut_no_branch v at taken h = and_none (nat_eq v.pc at) (not v.stops) (is_side taken v.side) (no_side taken v.side h)
+
+-- nor elsewhere than at its pc
+elsewhere : (pc at : ℕ) (b : Bool) → (pc ≡ at → ⊥) → (nat_eq pc at && b) ≡ false
+elsewhere pc at b h = ap (λ t. t && b) (ne_eqb pc at h)
+
+pub cut_by_key : (v : Look) (at : ℕ) (taken : Bool) (r : Bool) → r ≡ false → (key_of (Cut at taken) ≡ v.pc → r ≡ fails_by v (Cut at taken)) → fails_by v (Cut at taken) ≡ false
+cut_by_key v at taken r h told = ⊎_elim
+    (λ (e : v.pc ≡ at). sym (told (omega (arith, e))) ∙ h)
+    (λ (ne : v.pc ≡ at → ⊥). elsewhere v.pc at (not v.stops && is_side taken v.side) ne)
+    (cases_eq v.pc at)
+
+pub targets_stop : (v : Look) (at : ℕ) (to : List ℕ) → v.stops ≡ true → fails_by v (Targets at to) ≡ false
+targets_stop v at to h = ap (λ b. nat_eq v.pc at && (not b && (v.jumps && not (among to v.next)))) h ∙ and_not (nat_eq v.pc at) (v.jumps && not (among to v.next))
+
+pub targets_no_jump : (v : Look) (at : ℕ) (to : List ℕ) → v.jumps ≡ false → fails_by v (Targets at to) ≡ false
+targets_no_jump v at to h = and_none (nat_eq v.pc at) (not v.stops) (v.jumps && not (among to v.next)) (ap (λ b. b && not (among to v.next)) h)
+
+pub targets_by_key : (v : Look) (at : ℕ) (to : List ℕ) (r : Bool) → r ≡ false → (key_of (Targets at to) ≡ 4294967296 + v.pc → r ≡ fails_by v (Targets at to)) → fails_by v (Targets at to) ≡ false
+targets_by_key v at to r h told = ⊎_elim
+    (λ (e : v.pc ≡ at). sym (told (omega (arith, e))) ∙ h)
+    (λ (ne : v.pc ≡ at → ⊥). elsewhere v.pc at (not v.stops && (v.jumps && not (among to v.next))) ne)
+    (cases_eq v.pc at)
+
+-- ---- none fails
+
+none_among : (ms : List ℕ) (at : ℕ) → length ms ≡ 0 → among ms at ≡ false
+none_among [] at h = refl
+none_among (m ∷ ms) at h = absurd (omega (arith, h))
+
+whole : (a b code c d within : Bool) → (a && ((b && code) || (c && (d && within)))) ≡ false → ((code ≡ true) → (a && b) ≡ false) × ((within ≡ true) → (a && (c && d)) ≡ false)
+whole false b code c d within h = (λ _. refl, λ _. refl)
+whole true false code c d within h = (λ _. refl, λ w. other c d within w h)
+  where
+    other : (c d within : Bool) → within ≡ true → (c && (d && within)) ≡ false → (c && d) ≡ false
+    other true true within w h = absurd (true≢false (sym w ∙ h))
+    other true false within w h = refl
+    other false d within w h = refl
+whole true true true c d within h = absurd (true≢false h)
+whole true true false c d within h = (λ e. absurd (true≢false (sym e)), λ w. other c d within w h)
+  where
+    other : (c d within : Bool) → within ≡ true → (c && (d && within)) ≡ false → (c && d) ≡ false
+    other true true within w h = absurd (true≢false (sym w ∙ h))
+    other true false within w h = refl
+    other false d within w h = refl
+
+pub quiet : (v : Look) (xs : List Premise) (code within : Bool) → length v.marks ≡ 0 → code ≡ list_any is_code xs → within ≡ list_any is_within xs
+    → (v.analysed && ((v.changed && code) || (not v.stops && (not v.stays && within)))) ≡ false
+    → ((k at : ℕ) (taken : Bool) → slice_get xs k ≡ Some (Cut at taken) → fails_by v (Cut at taken) ≡ false)
+    → ((k at : ℕ) (to : List ℕ) → slice_get xs k ≡ Some (Targets at to) → fails_by v (Targets at to) ≡ false)
+    → (k : ℕ) (x : Premise) → slice_get xs k ≡ Some x → fails_by v x ≡ false
+quiet v xs code within none code_is within_is h cuts targets k (Cut at taken) e = cuts k at taken e
+quiet v xs code within none code_is within_is h cuts targets k (Targets at to) e = targets k at to e
+quiet v xs code within none code_is within_is h cuts targets k (Dead at) e = none_among v.marks (at + 1) none
+quiet v xs code within none code_is within_is h cuts targets k Code e = (whole v.analysed v.changed code (not v.stops) (not v.stays) within h).0 (code_is ∙ listed_any is_code xs k Code e refl)
+quiet v xs code within none code_is within_is h cuts targets k Within e = (whole v.analysed v.changed code (not v.stops) (not v.stays) within h).1 (within_is ∙ listed_any is_within xs k Within e refl)
+quiet v xs code within none code_is within_is h cuts targets k Span e = refl

@@ -1,0 +1,16 @@
+-- Nothing is marked yet.
+use Rattle.std.proofs.Common.{◌≡◌, map, ap, ◌∙◌, refl}
+use Rattle.dist_image.specs.Image.{Distilled, premise}
+use Rattle.seq_machine.specs.States.{state_of}
+use Rattle.assume_list.specs.Marks.{marked, dead_in}
+use Rattle.assume_list.proofs.Watched.{begun}
+use Rattle.assume_list.proofs.watch.Watch.new.Goals as goal
+
+pub returns-clause-watched : goal.returns-clause-watched
+returns-clause-watched g c =
+    let at = g.M.Memory.at in
+    let start = state_of at c.args.machine in
+    let claimed : at c.in_ok-dead_stores.field-0 ≡ dead_in c.args.image.now.assumptions =
+    c.in_ok-dead_stores.ensures ∙ ap (λ xs. dead_in (map premise xs)) c.deref.ensures.value ∙ ap (λ (i : Distilled). dead_in i.assumptions) c.image.view_is in
+    begun start c.args.image.now c.args.machine.position start (at c.in_ok-program.program) (at c.in_ok-dead_stores.field-0) (marked at c.in_ok-new.field-0) c.is_analysed-analysed.result
+    c.requires.position refl c.in_ok-program.ensures claimed c.in_ok-new.ensures.none c.is_analysed-analysed.ensures

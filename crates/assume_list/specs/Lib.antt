@@ -1,0 +1,7 @@
+pub mod Marks
+pub mod Sights
+pub mod Watched
+pub mod Places
+pub mod Shown
+pub mod Passes
+pub mod Verdicts

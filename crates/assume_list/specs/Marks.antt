@@ -1,0 +1,25 @@
+-- The mark of a byte, by the four bytes that are kept of it, and which stores mark what they put.
+use Rattle.std.specs.Prelude.{ℕ, ◌≡◌, ◌+◌, ◌*◌, zero, suc, cond, nat_eq, List, [], ◌∷◌}
+use Rattle.dist_image.specs.Image.{Premise, Dead}
+use Rattle.assume_list.specs.declared.marks.Marks.{Marks}
+
+abbrev pub marked : {M : Type 0} → (M → ℕ → ℕ) → Marks M → ℕ → ℕ
+marked at m a = at m.lowest a + 256 * (at m.low a + 256 * (at m.high a + 256 * at m.highest a))
+
+-- where the lowest byte of a mark is 0, the mark is 0
+abbrev pub IsTold : {M : Type 0} → (M → ℕ → ℕ) → Marks M → Type 0
+IsTold at m = (a : ℕ) → at m.lowest a ≡ 0 → marked at m a ≡ 0
+
+-- 1 at the pc of each store of a list that is claimed dead, over what is there already
+abbrev pub with_dead : List Premise → (ℕ → ℕ) → ℕ → ℕ
+with_dead [] m = m
+with_dead (Dead at ∷ xs) m = with_dead xs (λ b. cond (nat_eq at b) 1 (m b))
+with_dead (_ ∷ xs) m = with_dead xs m
+
+abbrev pub dead_in : List Premise → ℕ → ℕ
+dead_in xs = with_dead xs (λ _. 0)
+
+-- a mark counts where its store is claimed dead: it is 1 more than the store's pc
+abbrev pub counted : (ℕ → ℕ) → ℕ → ℕ
+counted dead zero = 0
+counted dead (suc pc) = cond (nat_eq (dead pc) 0) 0 (suc pc)

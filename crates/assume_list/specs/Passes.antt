@@ -1,0 +1,83 @@
+-- What is known of a run once it was looked at up to a position.
+use Rattle.std.specs.Prelude.{◌≡◌, ℕ, ◌+◌, ◌<◌, ◌≤◌, min, suc, Bool, false, true, List, Option, Some, None, ◌⊎◌}
+use Rattle.cells.specs.Run.{State, is_over}
+use Rattle.dist_image.specs.Image.{Premise, Span, Distilled}
+use Rattle.fitting.specs.Fails.{state_at}
+use Rattle.assume_laws.specs.declared.Waiting.{Waiting}
+use Rattle.assume_laws.specs.Looks.{first_failing, span_fails}
+use Rattle.assume_laws.specs.Waits.{passed_on, joined, is_overdue, waiting}
+use Rattle.assume_laws.specs.Laws.{IsSearched}
+use Rattle.assume_list.specs.declared.verdict.Verdict.{Verdict}
+use Rattle.assume_list.specs.declared.verdict.Verdict.TheVariants.{Broken}
+use Rattle.assume_list.specs.declared.passing.Passed.{Passed}
+use Rattle.assume_list.specs.declared.passing.Passed.TheVariants.{Late, Failed, Through}
+
+-- the anchors that wait were `old`. One has waited for the whole limit since position i, or they go on to wait by a step
+abbrev pub HasTurned : ℕ → ℕ → ℕ → Option ℕ → Bool → Bool → List Waiting → List Waiting → Option ℕ → Type 0
+HasTurned limit bound position here stops arrives old new None =
+    (is_overdue limit position (joined bound position here old) ≡ false) × (new ≡ passed_on stops arrives (joined bound position here old))
+HasTurned limit bound position here stops arrives old new (Some i) = (i + limit ≡ position) × (is_overdue limit position (joined bound position here old) ≡ true)
+
+-- where another assumption fails at a position, only the anchors before it are waited for
+abbrev pub bound_after : Option ℕ → ℕ → ℕ → ℕ
+bound_after None bound position = bound
+bound_after (Some k) bound position = min bound position
+
+abbrev pub is_span : Premise → Bool
+is_span Span = true
+is_span _ = false
+
+-- Span is told of below the budget where it is listed, and else nowhere
+abbrev pub bound_of : Option ℕ → ℕ → ℕ
+bound_of None budget = 0
+bound_of (Some k) budget = budget
+
+-- the verdict where Span fails at a position, and else another one
+abbrev pub or_late : Option ℕ → ℕ → Verdict → Verdict
+or_late None which otherwise = otherwise
+or_late (Some i) which otherwise = Broken i which
+
+module _ (start : State) (image : Distilled) where
+  -- the run has come to position p, where the state is s. The anchors below the bound that wait there are ws, and none was overdue
+  pub record IsReached (bound p : ℕ) (s : State) (ws : List Waiting) : Type 0 where
+    pub state : s ≡ state_at start p
+    pub list : ws ≡ waiting start image bound p
+    pub searched : IsSearched start image bound p
+
+  -- no listed assumption but Span fails before position n
+  abbrev pub IsClean : ℕ → Type 0
+  IsClean n = (i : ℕ) → i < n → is_over (state_at start i) ≡ false → first_failing start image i ≡ None
+
+  -- position i, below a bound, is the first at which Span fails
+  pub record IsLate (bound i : ℕ) : Type 0 where
+    pub within : i < bound
+    pub going : is_over (state_at start i) ≡ false
+    pub fails : span_fails start image i ≡ true
+    pub first : (h : ℕ) → h < i → span_fails start image h ≡ false
+
+  -- position j is the first at which a listed assumption but Span fails, and k is the number of the first one there
+  pub record IsFailed (budget bound p : ℕ) (s : State) (ws : List Waiting) (k : ℕ) : Type 0 where
+    pub place : ℕ
+    pub passed : p ≡ suc place
+    pub below : place < budget
+    pub going : is_over (state_at start place) ≡ false
+    pub clean : IsClean place
+    pub fails : first_failing start image place ≡ Some k
+    pub reached : IsReached (min bound place) p s ws
+
+  pub record IsThrough (budget bound p : ℕ) (s : State) (ws : List Waiting) : Type 0 where
+    pub within : p ≤ budget
+    pub clean : IsClean p
+    pub stops : (p ≡ budget) ⊎ (is_over s ≡ true)
+    pub reached : IsReached bound p s ws
+
+  -- what a pass over the positions below a budget came to, at position p
+  abbrev pub HasPassed : ℕ → ℕ → ℕ → State → List Waiting → Passed → Type 0
+  HasPassed budget bound p s ws (Late i) = IsLate bound i × IsClean (suc i)
+  HasPassed budget bound p s ws (Failed k) = IsFailed budget bound p s ws k
+  HasPassed budget bound p s ws Through = IsThrough budget bound p s ws
+
+  -- whether Span fails at a position of the run below the bound, and then the first one
+  abbrev pub IsAwaited : ℕ → Option ℕ → Type 0
+  IsAwaited bound None = (i : ℕ) → i < bound → is_over (state_at start i) ≡ false → span_fails start image i ≡ false
+  IsAwaited bound (Some i) = IsLate bound i

@@ -1,0 +1,50 @@
+-- What is seen of a position, and the marks after its step.
+use Rattle.std.specs.Prelude.{ℕ, ◌+◌, Bool, true, false, List, if◌then◌else◌}
+use Rattle.rv_word.specs.declared.inst.Inst.{Inst}
+use Rattle.rv_word.specs.declared.inst.Inst.TheVariants.{Ecall}
+use Rattle.rv_word.specs.Meaning.{meaning}
+use Rattle.cells.specs.Run.{State}
+use Rattle.rv_run.specs.Machine.{word_at}
+use Rattle.rv_run.specs.Calls.{step}
+use Rattle.dist_image.specs.Image.{Premise, Code, Within, Distilled}
+use Rattle.fitting.specs.Claims.{among}
+use Rattle.fitting.specs.Fails.{is_store}
+use Rattle.profile_laws.specs.Tally.{bytes_in, stored}
+use Rattle.assume_laws.specs.Looks.{Look, look}
+use Rattle.assume_list.specs.declared.sight.Sight.{Sight}
+use Rattle.assume_list.specs.Marks.{counted}
+
+abbrev pub seen : Sight → List ℕ → Look
+seen v marks = record {
+  pc = v.pc;
+  stops = v.stops;
+  side = v.side;
+  jumps = v.jumps;
+  changed = v.changed;
+  analysed = v.analysed;
+  next = v.next;
+  stays = v.stays;
+  marks = marks;
+}
+
+abbrev pub is_code : Premise → Bool
+is_code Code = true
+is_code _ = false
+
+abbrev pub is_within : Premise → Bool
+is_within Within = true
+is_within _ = false
+
+abbrev pub is_call : Inst → Bool
+is_call Ecall = true
+is_call _ = false
+
+-- of a state, where `word` is the program's word at its pc, and each byte has a mark
+abbrev pub look_in : Distilled → ℕ → State → (ℕ → ℕ) → Look
+look_in image word s marks = look image word s.arch (step s).arch.pc marks
+
+-- the marks after the step of a state, where the stores are known that are claimed dead
+abbrev pub marks_after : (ℕ → ℕ) → State → (ℕ → ℕ) → ℕ → ℕ
+marks_after dead s marks a =
+    let i = meaning (word_at s.arch) in
+    if among (bytes_in (stored i s)) a then (if is_store i then counted dead (s.arch.pc + 1) else 0) else marks a

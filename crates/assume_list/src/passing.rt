@@ -1,0 +1,207 @@
+//! The pass over the positions of a run, and the wait for the anchors that stand before them.
+
+ghost use Rattle.std.specs.Prelude.{◌≡◌, ◌+◌, ◌-◌, ◌<◌, ◌≤◌, ◌^◌, [], ◌&&◌, not, nat_lt, OnOk, IfOk, IsNone};
+ghost use Rattle.std.specs.List.{list_any};
+ghost use Rattle.cells.specs.Run.{State, is_end};
+ghost use Rattle.rv_run.specs.Machine.{machine as plain, word_at};
+ghost use Rattle.rv_word.specs.Meaning.{meaning};
+ghost use Rattle.assume_list.specs.Sights.{is_code, is_within, is_call};
+ghost use Rattle.rv_run.specs.Calls.{step as next_state};
+ghost use Rattle.seq_machine.specs.States.{arch_at, state_of};
+ghost use Rattle.dist_image.specs.Image.{IsImage};
+ghost use Rattle.image_world.specs.World.{count_of};
+ghost use Rattle.fitting.specs.Fits.{is_anchor_pc};
+ghost use Rattle.assume_list.specs.Marks.{marked, IsTold};
+ghost use Rattle.assume_list.specs.Watched.{IsWatched};
+ghost use Rattle.assume_list.specs.Places.{AreKnown};
+ghost use Rattle.assume_list.specs.Shown.{IsEarly, shown};
+ghost use Rattle.assume_list.specs.Passes.{HasTurned, bound_after, HasPassed, IsReached, IsAwaited};
+
+use crate::instruction::is_call;
+use crate::pcs::Pcs;
+use crate::waits::Waits;
+use crate::watch::{Watch, stops};
+use dist_image::Image;
+use memory::Memory;
+use rv_word::decode;
+use seq_machine::Machine;
+use std::alloc::{AllocError, Global};
+
+/// What a pass came to.
+#[derive(Clone, Copy, Drop)]
+pub(crate) enum Passed {
+    /// Span fails at this position.
+    Late(u64),
+    /// Another assumption fails at the position before, and this is its number.
+    Failed(u32),
+    /// None fails at the positions that were passed, but for Span.
+    Through,
+}
+
+/// Where a step began and led.
+#[derive(Clone, Copy)]
+struct Turn {
+    position: u64,
+    pc: u32,
+    stops: bool,
+    next: u32,
+}
+
+// Whether the run goes on, and is at a position before `last`.
+fn goes_on<M: Memory>(machine: &Machine<M>, last: u64) -> bool
+    ensures { result ≡ (not (is_end machine.now.end) && nat_lt machine.now.position last) }
+{
+    machine.end.is_none() && machine.position < last
+}
+
+// Only the anchors before a position at which another assumption fails are waited for.
+fn bound_after(first: Option<u32>, bound: u64, position: u64) -> u64
+    ensures { result ≡ bound_after first bound position }
+{
+    match first {
+        None => bound,
+        Some(_) => bound.min(position),
+    }
+}
+
+// Lets the anchors wait on by a step. Answers the position of one that has waited for the whole limit as the step begins.
+fn take_turn<M: Memory>(
+    waits: &mut Waits,
+    image: &Image,
+    pcs: &Pcs<M>,
+    bound: u64,
+    turn: Turn,
+) -> Result<Option<u64>, AllocError>
+    requires image { IsImage image.now }
+    requires known { AreKnown M.at pcs.now image.now }
+    requires near { turn.position < 2 ^ 63 }
+    requires arrivals { waits.old.arrivals ≤ turn.position }
+    requires early { IsEarly waits.old.due waits.old.limit (shown waits.old) }
+    requires limit { waits.old.limit ≡ image.now.limit }
+    ensures turned { IfOk result (HasTurned image.now.limit bound turn.position (count_of image.now turn.pc) turn.stops (is_anchor_pc image.now turn.next) (shown waits.old) (shown waits.new)) }
+    ensures arrivals { OnOk result (waits.new.arrivals ≤ turn.position + 1) }
+    ensures early { OnOk result (IsEarly waits.new.due waits.new.limit (shown waits.new)) }
+    ensures limit { waits.new.limit ≡ waits.old.limit }
+{
+    let here = pcs.count(image, turn.pc);
+    let arrives = pcs.count(image, turn.next).is_some();
+    if waits.step(bound, turn.position, here, turn.stops, arrives)? {
+        return Ok(Some(turn.position - u64::from(waits.limit)));
+    }
+    Ok(None)
+}
+
+/// Looks at the positions below a budget, while none is found at which an assumption fails. Of Span it is told where it
+/// fails below the bound.
+pub(crate) fn pass<M: Memory>(
+    alloc: Global,
+    watch: &mut Watch<M>,
+    waits: &mut Waits,
+    image: &Image,
+    pcs: &Pcs<M>,
+    budget: u64,
+    bound: u64,
+) -> Result<Passed, AllocError>
+    requires image { IsImage image.now }
+    requires known { AreKnown M.at pcs.now image.now }
+    requires few { budget ≤ 10 ^ 12 }
+    requires bound { bound ≤ budget }
+    requires position { watch.old.machine.position ≡ 0 }
+    requires told { IsTold M.at watch.old.marks }
+    requires code { watch.old.listed.code ≡ list_any is_code image.now.assumptions }
+    requires within { watch.old.listed.within ≡ list_any is_within image.now.assumptions }
+    requires watched { IsWatched (state_of M.at watch.old.machine) image.now watch.old.machine.position (state_of M.at watch.old.machine) (M.at watch.old.program) (M.at watch.old.dead) (marked M.at watch.old.marks) watch.old.analysed }
+    requires none { shown waits.old ≡ [] }
+    requires arrivals { waits.old.arrivals ≡ 0 }
+    requires early { IsEarly waits.old.due waits.old.limit (shown waits.old) }
+    requires limit { waits.old.limit ≡ image.now.limit }
+    ensures passed { IfOk result (HasPassed (state_of M.at watch.old.machine) image.now budget bound watch.new.machine.position (state_of M.at watch.new.machine) (shown waits.new)) }
+    ensures position { OnOk result (watch.new.machine.position ≤ budget) }
+    ensures arrivals { OnOk result (waits.new.arrivals ≤ watch.new.machine.position) }
+    ensures early { OnOk result (IsEarly waits.new.due waits.new.limit (shown waits.new)) }
+    ensures limit { waits.new.limit ≡ waits.old.limit }
+{
+    while goes_on(&watch.machine, budget) {
+        let position = watch.machine.position;
+        let pc = watch.machine.arch.pc;
+        let seen = watch.step(alloc, image, pcs)?;
+        let turn = Turn {
+            position,
+            pc,
+            stops: seen.stops,
+            next: watch.machine.arch.pc,
+        };
+        let until = bound_after(seen.first, bound, position);
+        match take_turn(waits, image, pcs, until, turn)? {
+            Some(since) => return Ok(Passed::Late(since)),
+            None => {}
+        }
+        match seen.first {
+            Some(which) => return Ok(Passed::Failed(which)),
+            None => {}
+        }
+    }
+    Ok(Passed::Through)
+}
+
+// Whether the instruction at the machine's pc is a call.
+fn is_at_call<M: Memory>(machine: &mut Machine<M>) -> bool
+    ensures state { state_of M.at machine.new ≡ state_of M.at machine.old }
+    ensures position { machine.new.position ≡ machine.old.position }
+    ensures calls { result ≡ is_call (meaning (word_at (arch_at M.at machine.old.arch))) }
+{
+    let pc = machine.arch.pc;
+    is_call(decode(machine.arch.mem.fetch(pc)))
+}
+
+// A step, without a look. Answers whether it is a call or ends the run.
+fn step_on<M: Memory>(alloc: Global, machine: &mut Machine<M>) -> Result<bool, AllocError>
+    requires running { IsNone machine.old.end }
+    requires room { machine.old.position < 2 ^ 64 - 1 }
+    ensures state { OnOk result (state_of M.at machine.new ≡ next_state (state_of M.at machine.old)) }
+    ensures position { OnOk result (machine.new.position ≡ machine.old.position + 1) }
+    ensures stops { IfOk result (λ stops. stops ≡ plain.stops (arch_at M.at machine.old.arch)) }
+{
+    let calls = is_at_call(machine);
+    machine.one(alloc)?;
+    Ok(stops(calls, machine.end))
+}
+
+/// Goes on with the run until it is told whether Span fails below the bound, and answers the first position there.
+pub(crate) fn wait<M: Memory>(
+    alloc: Global,
+    machine: &mut Machine<M>,
+    waits: &mut Waits,
+    image: &Image,
+    pcs: &Pcs<M>,
+    bound: u64,
+) -> Result<Option<u64>, AllocError>
+    requires image { IsImage image.now }
+    requires known { AreKnown M.at pcs.now image.now }
+    requires few { bound ≤ 10 ^ 12 }
+    requires arrivals { waits.old.arrivals ≤ machine.old.position }
+    requires early { IsEarly waits.old.due waits.old.limit (shown waits.old) }
+    requires limit { waits.old.limit ≡ image.now.limit }
+    ensures { (start : State) → IsReached start image.now bound machine.old.position (state_of M.at machine.old) (shown waits.old) → IfOk result (IsAwaited start image.now bound) }
+{
+    if bound == 0 {
+        return Ok(None);
+    }
+    let last = bound + u64::from(waits.limit);
+    while goes_on(machine, last) {
+        let position = machine.position;
+        let pc = machine.arch.pc;
+        let stops = step_on(alloc, machine)?;
+        let turn = Turn {
+            position,
+            pc,
+            stops,
+            next: machine.arch.pc,
+        };
+        match take_turn(waits, image, pcs, bound, turn)? {
+            Some(since) => return Ok(Some(since)),
+            None => {}
+        }
+    }
+    Ok(None)
+}

@@ -1,0 +1,230 @@
+//! What is looked at of a position of the run, and which assumption fails there.
+
+ghost use Rattle.std.specs.Prelude.{◌≡◌, ℕ, ◌+◌, ◌*◌, ◌<◌, ◌≤◌, ◌^◌, ◌&&◌, ◌||◌, not, Bool, false, List, Some, map, length, slice_get};
+ghost use Rattle.std.specs.List.{list_any};
+ghost use Rattle.dist_image.specs.Image.{Premise, Cut, Targets, premise, key_of, IsImage};
+ghost use Rattle.fitting.specs.Claims.{among};
+ghost use Rattle.fitting.specs.Fits.{is_analysed};
+ghost use Rattle.image_world.specs.World.{count_of};
+ghost use Rattle.assume_laws.specs.Looks.{fails_by, first_from};
+ghost use Rattle.assume_list.specs.Sights.{seen, is_code, is_within};
+
+use dist_image::{Assumption, Image, anchor_at, slot_of};
+
+/// The step from one kind of assumption to the next, in the order of a list.
+const KIND: u64 = 4_294_967_296;
+
+/// Whether an image lists the assumptions that speak of no single pc, but for Span.
+#[derive(Clone, Copy)]
+pub(crate) struct Listed {
+    pub code: bool,
+    pub within: bool,
+}
+
+/// What is looked at of a position, beside the marks of the bytes that are read there.
+#[derive(Clone, Copy)]
+pub(crate) struct Sight {
+    pub pc: u32,
+    /// The instruction is a call, or ends the run.
+    pub stops: bool,
+    /// Whether the condition of a branch holds, where the instruction is a branch.
+    pub side: Option<bool>,
+    /// The instruction is a jump by a register.
+    pub jumps: bool,
+    /// The word isn't the program's.
+    pub changed: bool,
+    pub analysed: bool,
+    /// The pc afterwards.
+    pub next: u32,
+    /// The pc afterwards is analysed.
+    pub stays: bool,
+}
+
+/// Whether a number is in a list.
+pub(crate) fn is_among(ns: &[u32], n: u32) -> bool
+    ensures { result ≡ among ns.now n }
+{
+    for m in ns {
+        if *m == n {
+            return true;
+        }
+    }
+    false
+}
+
+/// Whether an address is analysed: it has a note.
+pub(crate) fn is_analysed(image: &Image, pc: u32) -> bool
+    requires { IsImage image.now }
+    ensures { result ≡ is_analysed image.now pc }
+{
+    slot_of(image, pc).is_some()
+}
+
+/// The count of the anchor at an address, if one is there.
+pub(crate) fn count_of(image: &Image, pc: u32) -> Option<u32>
+    requires { IsImage image.now }
+    ensures count { result ≡ count_of image.now pc }
+    ensures some { (n : ℕ) → result ≡ Some n → 1 ≤ n }
+{
+    let place = anchor_at(image, pc)?;
+    Some(image.anchors.get(place as usize)?.count)
+}
+
+/// Whether a byte among these was written last by a store at that address. A store's mark is 1 more than its address.
+fn is_marked(marks: &[u32], at: u32) -> bool
+    ensures { result ≡ among marks.now (at + 1) }
+{
+    for m in marks {
+        if *m != 0 && *m - 1 == at {
+            return true;
+        }
+    }
+    false
+}
+
+// Whether an assumption other than Span fails.
+fn fails(sight: &Sight, marks: &[u32], x: &Assumption) -> bool
+    ensures { result ≡ fails_by (seen sight.now marks.now) (premise x.now) }
+{
+    match x {
+        Assumption::Cut { at, taken } => {
+            sight.pc == *at && !sight.stops && sight.side == Some(*taken)
+        }
+        Assumption::Targets { at, to } => {
+            sight.pc == *at && !sight.stops && sight.jumps && !is_among(to, sight.next)
+        }
+        Assumption::Dead { at } => is_marked(marks, *at),
+        Assumption::Code => sight.analysed && sight.changed,
+        Assumption::Within => sight.analysed && !sight.stops && !sight.stays,
+        Assumption::Span => false,
+    }
+}
+
+// The number of the first of a list that fails.
+#[inline(never)]
+fn first_of(sight: &Sight, marks: &[u32], xs: &[Assumption]) -> Option<u32>
+    requires { length xs.now ≤ 1_048_576 }
+    ensures { result ≡ first_from (fails_by (seen sight.now marks.now)) 0 (map premise xs.now) }
+{
+    for k in 0..xs.len() {
+        if fails(sight, marks, &xs[k]) {
+            return Some(k as u32);
+        }
+    }
+    None
+}
+
+// The kind of an assumption and its pc, as one number: lists are ordered by it.
+fn key_of(x: &Assumption) -> u64
+    ensures { result ≡ key_of (premise x.now) }
+{
+    match x {
+        Assumption::Cut { at, .. } => u64::from(*at),
+        Assumption::Targets { at, .. } => KIND + u64::from(*at),
+        Assumption::Dead { at } => 2 * KIND + u64::from(*at),
+        Assumption::Code => 3 * KIND,
+        Assumption::Within => 4 * KIND,
+        Assumption::Span => 5 * KIND,
+    }
+}
+
+// Whether the assumption with a key fails, where one is listed.
+#[inline(never)]
+fn keyed_fails(sight: &Sight, marks: &[u32], image: &Image, key: u64) -> bool
+    requires { IsImage image.now }
+    ensures { (k : ℕ) (x : Premise) → slice_get image.now.assumptions k ≡ Some x → key_of x ≡ key → result ≡ fails_by (seen sight.now marks.now) x }
+{
+    let xs = image.assumptions.as_slice();
+    match xs.binary_search_by_key(&key, |x| key_of(x)) {
+        Ok(place) => fails(sight, marks, &xs[place]),
+        Err(_) => false,
+    }
+}
+
+// Whether a cut fails.
+fn cut_fails(sight: &Sight, marks: &[u32], image: &Image) -> bool
+    requires { IsImage image.now }
+    ensures { result ≡ false → (k at : ℕ) (taken : Bool) → slice_get image.now.assumptions k ≡ Some (Cut at taken) → fails_by (seen sight.now marks.now) (Cut at taken) ≡ false }
+{
+    if sight.stops || sight.side.is_none() {
+        return false;
+    }
+    keyed_fails(sight, marks, image, u64::from(sight.pc))
+}
+
+// Whether the targets of a jump fail.
+fn targets_fail(sight: &Sight, marks: &[u32], image: &Image) -> bool
+    requires { IsImage image.now }
+    ensures { result ≡ false → (k at : ℕ) (to : List ℕ) → slice_get image.now.assumptions k ≡ Some (Targets at to) → fails_by (seen sight.now marks.now) (Targets at to) ≡ false }
+{
+    if sight.stops || !sight.jumps {
+        return false;
+    }
+    keyed_fails(sight, marks, image, KIND + u64::from(sight.pc))
+}
+
+// Whether one that speaks of no single pc fails.
+fn whole_fails(sight: &Sight, listed: Listed) -> bool
+    ensures { result ≡ (sight.now.analysed && ((sight.now.changed && listed.code) || (not sight.now.stops && (not sight.now.stays && listed.within)))) }
+{
+    sight.analysed
+        && (sight.changed && listed.code || !sight.stops && !sight.stays && listed.within)
+}
+
+/// The number of the first assumption other than Span that fails. The list is gone through only where one does.
+pub(crate) fn first_failing(
+    sight: &Sight,
+    marks: &[u32],
+    image: &Image,
+    listed: Listed,
+) -> Option<u32>
+    requires image { IsImage image.now }
+    requires code { listed.code ≡ list_any is_code image.now.assumptions }
+    requires within { listed.within ≡ list_any is_within image.now.assumptions }
+    ensures { result ≡ first_from (fails_by (seen sight.now marks.now)) 0 image.now.assumptions }
+{
+    if marks.is_empty()
+        && !whole_fails(sight, listed)
+        && !cut_fails(sight, marks, image)
+        && !targets_fail(sight, marks, image)
+    {
+        return None;
+    }
+    first_of(sight, marks, &image.assumptions)
+}
+
+// Whether an entry of a list is Code.
+fn lists_code(xs: &[Assumption]) -> bool
+    ensures { result ≡ list_any is_code (map premise xs.now) }
+{
+    for x in xs {
+        if matches!(x, Assumption::Code) {
+            return true;
+        }
+    }
+    false
+}
+
+// Whether an entry of a list is Within.
+fn lists_within(xs: &[Assumption]) -> bool
+    ensures { result ≡ list_any is_within (map premise xs.now) }
+{
+    for x in xs {
+        if matches!(x, Assumption::Within) {
+            return true;
+        }
+    }
+    false
+}
+
+/// Which assumptions of no single pc are listed.
+pub(crate) fn look_up(image: &Image) -> Listed
+    requires { IsImage image.now }
+    ensures code { result.code ≡ list_any is_code image.now.assumptions }
+    ensures within { result.within ≡ list_any is_within image.now.assumptions }
+{
+    Listed {
+        code: lists_code(&image.assumptions),
+        within: lists_within(&image.assumptions),
+    }
+}
