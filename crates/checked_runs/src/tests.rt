@@ -1,0 +1,524 @@
+//! What no clause says: that a check succeeds where memory is ample. And verdicts on small programs, worked out by hand.
+ghost use Rattle.std.specs.Prelude.{IfOk};
+ghost use Rattle.elf_reader.specs.Executable.{IsProgram};
+ghost use Rattle.dist_image.specs.Image.{IsImage};
+
+use assume_list::{Verdict, check_run};
+use dist_image::{Image, read_image};
+use elf_reader::{Program, read_elf};
+use std::alloc::Global;
+use std::process::Abort;
+use std::test::Fail;
+
+/// Where each program of these tests begins.
+const BASE: u32 = 0x0001_0000;
+
+/// The kinds of assumptions. Behind each come a pc, the side that is cut, and the number of targets.
+const CUT: u32 = 0;
+
+const TARGETS: u32 = 1;
+
+const DEAD: u32 = 2;
+
+const CODE: u32 = 3;
+
+const WITHIN: u32 = 4;
+
+const SPAN: u32 = 5;
+
+/// An image: anchors by pc, slot and count, the pcs of the notes, and the words of so many assumptions.
+#[derive(Clone, Copy)]
+struct Tables {
+    limit: u32,
+    anchors: &'static [u32],
+    notes: &'static [u32],
+    listed: u32,
+    assumptions: &'static [u32],
+}
+
+/// What is checked, and the verdict on the run below the budget.
+#[derive(Clone, Copy)]
+struct Case {
+    input: &'static [u8],
+    budget: u64,
+    tables: Tables,
+    verdict: Verdict,
+}
+
+fn push_words(bytes: &mut Vec<u8>, words: &[u32]) -> Result<(), Fail> {
+    for word in words {
+        bytes.extend_from_slice(&word.to_le_bytes())?;
+    }
+    Ok(())
+}
+
+/// The program of these words, in one part.
+fn program(alloc: Global, words: &[u32]) -> Result<Program, Fail>
+    ensures { IfOk result IsProgram }
+{
+    let size = (words.len() % 1_000) as u32 * 4;
+    let mut file = Vec::new(alloc);
+    push_words(
+        &mut file,
+        &[
+            0x464C_457F,
+            0x0001_0101,
+            0,
+            0,
+            0x00F3_0002,
+            1,
+            BASE,
+            0x34,
+            0,
+            0,
+            0x0020_0034,
+            1,
+            0,
+        ],
+    )?;
+    push_words(&mut file, &[1, 0x54, BASE, BASE, size, size, 5, 4])?;
+    push_words(&mut file, words)?;
+    Ok(read_elf(alloc, &file)?)
+}
+
+/// The image of these tables. It has one slot, and empty masks.
+fn image(alloc: Global, tables: Tables) -> Result<Image, Fail>
+    ensures { IfOk result IsImage }
+{
+    let anchors = (tables.anchors.len() % 1_000) as u32 / 3;
+    let notes = (tables.notes.len() % 1_000) as u32;
+    let mut file = Vec::new(alloc);
+    push_words(
+        &mut file,
+        &[
+            0x5053_534D,
+            1,
+            tables.limit,
+            1,
+            anchors,
+            notes,
+            tables.listed,
+        ],
+    )?;
+    push_words(&mut file, &[1, BASE, 0])?;
+    push_words(&mut file, tables.anchors)?;
+    for pc in tables.notes {
+        push_words(&mut file, &[*pc, 0, 0, 0])?;
+    }
+    push_words(&mut file, tables.assumptions)?;
+    Ok(read_image(alloc, &file)?)
+}
+
+/// The verdict on a case.
+fn verdict(alloc: Global, words: &[u32], case: Case) -> Result<Verdict, Fail> {
+    let program = program(alloc, words)?;
+    let image = image(alloc, case.tables)?;
+    let input = Vec::from_slice(alloc, case.input)?;
+    let budget = case.budget.clamp(1, 1_000);
+    Ok(check_run(alloc, &program, &image, input, budget)?)
+}
+
+/// An image with these anchors, notes and assumptions.
+fn listing(
+    limit: u32,
+    anchors: &'static [u32],
+    notes: &'static [u32],
+    listed: u32,
+    assumptions: &'static [u32],
+) -> Tables {
+    Tables {
+        limit,
+        anchors,
+        notes,
+        listed,
+        assumptions,
+    }
+}
+
+/// Without input, below a budget that is past the end.
+fn to_the_end(tables: Tables, verdict: Verdict) -> Case {
+    Case {
+        input: b"",
+        budget: 1_000,
+        tables,
+        verdict,
+    }
+}
+
+fn broken(position: u64, which: u32) -> Verdict {
+    Verdict::Broken { position, which }
+}
+
+fn check_cases(
+    rt: &impl Abort,
+    alloc: Global,
+    words: &'static [u32],
+    cases: &[Case],
+) -> Result<(), Fail> {
+    for case in cases {
+        let answer = verdict(alloc, words, *case)?;
+        assert_eq!(rt; answer, case.verdict);
+    }
+    Ok(())
+}
+
+/// A loop of ten turns with a comparison in it that never holds.
+static NEVER_TRUE: [u32; 10] = [
+    0x00A0_0293,
+    0x0002_A313,
+    0x0003_1863,
+    0xFFF2_8293,
+    0xFE02_9AE3,
+    0x0080_006F,
+    0x0010_0073,
+    0x0000_0513,
+    0x05D0_0893,
+    0x0000_0073,
+];
+
+#[test]
+fn a_branch_that_is_never_taken(rt: HostRuntime) -> Result<(), Fail> {
+    let image = listing(
+        64,
+        &[0x1_0000, 0, 2, 0x1_0004, 0, 2],
+        &[
+            0x1_0000, 0x1_0004, 0x1_0008, 0x1_000C, 0x1_0010, 0x1_0014, 0x1_001C, 0x1_0020,
+            0x1_0024,
+        ],
+        4,
+        &[
+            CUT, 0x1_0008, 1, 0, CODE, 0, 0, 0, WITHIN, 0, 0, 0, SPAN, 0, 0, 0,
+        ],
+    );
+    check_cases(
+        &rt,
+        rt.alloc(),
+        &NEVER_TRUE,
+        &[to_the_end(image, Verdict::Met(45))],
+    )
+}
+
+/// A read of one byte, and a loop of ten turns that ends at once where the byte is not 0.
+static INPUT_DECIDES: [u32; 15] = [
+    0x0000_0513,
+    0x0002_05B7,
+    0x0010_0613,
+    0x03F0_0893,
+    0x0000_0073,
+    0x0005_8303,
+    0x00A0_0293,
+    0x0003_1A63,
+    0xFFF2_8293,
+    0xFE02_9CE3,
+    0x0000_0513,
+    0x0080_006F,
+    0x0050_0513,
+    0x05D0_0893,
+    0x0000_0073,
+];
+
+#[test]
+fn the_input_decides(rt: HostRuntime) -> Result<(), Fail> {
+    // as distilled from a run without input
+    let image = listing(
+        64,
+        &[0x1_0000, 0, 2, 0x1_0014, 0, 2, 0x1_001C, 0, 2],
+        &[
+            0x1_0000, 0x1_0004, 0x1_0008, 0x1_000C, 0x1_0010, 0x1_0014, 0x1_0018, 0x1_001C,
+            0x1_0020, 0x1_0024, 0x1_0028, 0x1_002C, 0x1_0034, 0x1_0038,
+        ],
+        4,
+        &[
+            CUT, 0x1_001C, 1, 0, CODE, 0, 0, 0, WITHIN, 0, 0, 0, SPAN, 0, 0, 0,
+        ],
+    );
+    let with_input = Case {
+        input: b"A",
+        budget: 1_000,
+        tables: image,
+        verdict: broken(7, 0),
+    };
+    let cases = [to_the_end(image, Verdict::Met(41)), with_input];
+    check_cases(&rt, rt.alloc(), &INPUT_DECIDES, &cases)
+}
+
+/// A loop of ten turns.
+static TEN_TURNS: [u32; 6] = [
+    0x00A0_0293,
+    0xFFF2_8293,
+    0xFE02_9EE3,
+    0x0000_0513,
+    0x05D0_0893,
+    0x0000_0073,
+];
+
+#[test]
+fn budgets_end_a_check(rt: HostRuntime) -> Result<(), Fail> {
+    let no_list = listing(16, &[], &[], 0, &[]);
+    let cut = listing(16, &[], &[], 1, &[CUT, 0x1_0008, 1, 0]);
+    let cases = [
+        Case {
+            input: b"",
+            budget: 1,
+            tables: no_list,
+            verdict: Verdict::Met(1),
+        },
+        Case {
+            input: b"",
+            budget: 24,
+            tables: no_list,
+            verdict: Verdict::Met(24),
+        },
+        Case {
+            input: b"",
+            budget: 25,
+            tables: no_list,
+            verdict: Verdict::Met(24),
+        },
+        Case {
+            input: b"",
+            budget: 2,
+            tables: cut,
+            verdict: Verdict::Met(2),
+        },
+        Case {
+            input: b"",
+            budget: 3,
+            tables: cut,
+            verdict: broken(2, 0),
+        },
+    ];
+    check_cases(&rt, rt.alloc(), &TEN_TURNS, &cases)
+}
+
+#[test]
+fn cuts_and_what_is_within(rt: HostRuntime) -> Result<(), Fail> {
+    let at_first = &[0x1_0000, 0, 1];
+    let cases = [
+        // the branch is taken at position 2, and falls at position 20
+        to_the_end(
+            listing(16, &[], &[], 1, &[CUT, 0x1_0008, 1, 0]),
+            broken(2, 0),
+        ),
+        to_the_end(
+            listing(16, &[], &[], 1, &[CUT, 0x1_0008, 0, 0]),
+            broken(20, 0),
+        ),
+        to_the_end(
+            listing(16, &[], &[], 1, &[CUT, 0x1_0004, 1, 0]),
+            Verdict::Met(24),
+        ),
+        // the word behind the note has none, and the first of two is told
+        to_the_end(
+            listing(16, &[], &[0x1_0004], 1, &[WITHIN, 0, 0, 0]),
+            broken(1, 0),
+        ),
+        to_the_end(
+            listing(
+                16,
+                &[],
+                &[0x1_0008],
+                2,
+                &[CUT, 0x1_0008, 1, 0, WITHIN, 0, 0, 0],
+            ),
+            broken(2, 0),
+        ),
+        to_the_end(
+            listing(16, &[], &[0x1_0014], 1, &[WITHIN, 0, 0, 0]),
+            Verdict::Met(24),
+        ),
+        // Span is told later, but fails at position 0
+        to_the_end(
+            listing(16, at_first, &[], 2, &[CUT, 0x1_0008, 1, 0, SPAN, 0, 0, 0]),
+            broken(0, 1),
+        ),
+        to_the_end(
+            listing(
+                16,
+                at_first,
+                &[0x1_0000],
+                2,
+                &[WITHIN, 0, 0, 0, SPAN, 0, 0, 0],
+            ),
+            broken(0, 0),
+        ),
+        to_the_end(
+            listing(24, at_first, &[], 2, &[CUT, 0x1_0008, 1, 0, SPAN, 0, 0, 0]),
+            broken(2, 0),
+        ),
+    ];
+    check_cases(&rt, rt.alloc(), &TEN_TURNS, &cases)
+}
+
+#[test]
+fn tasks_come_to_their_end_in_time(rt: HostRuntime) -> Result<(), Fail> {
+    let at_first = &[0x1_0000, 0, 1];
+    let span = &[SPAN, 0, 0, 0];
+    let cases = [
+        // the call is at position 23: within the limit from position 0 on, where the limit is above that distance
+        to_the_end(listing(24, at_first, &[], 1, span), Verdict::Met(24)),
+        to_the_end(listing(23, at_first, &[], 1, span), broken(0, 0)),
+        // a stop where the task begins
+        to_the_end(
+            listing(16, &[0x1_0014, 0, 1], &[], 1, span),
+            Verdict::Met(24),
+        ),
+        // an arrival at position 21: within the limit where that is the distance
+        to_the_end(
+            listing(21, &[0x1_0000, 0, 1, 0x1_000C, 0, 1], &[], 1, span),
+            Verdict::Met(24),
+        ),
+        to_the_end(
+            listing(20, &[0x1_0000, 0, 1, 0x1_000C, 0, 1], &[], 1, span),
+            broken(0, 0),
+        ),
+        // each turn is an arrival: from positions 1 and 3 the eighth comes 16 steps later, from position 5 none does
+        to_the_end(listing(16, &[0x1_0004, 0, 8], &[], 1, span), broken(5, 0)),
+        to_the_end(listing(16, &[0x1_0004, 0, 9], &[], 1, span), broken(1, 0)),
+        to_the_end(
+            listing(20, &[0x1_0004, 0, 8], &[], 1, span),
+            Verdict::Met(24),
+        ),
+        // below a budget of one, positions past it are looked at
+        Case {
+            input: b"",
+            budget: 1,
+            tables: listing(23, at_first, &[], 1, span),
+            verdict: broken(0, 0),
+        },
+        Case {
+            input: b"",
+            budget: 1,
+            tables: listing(24, at_first, &[], 1, span),
+            verdict: Verdict::Met(1),
+        },
+    ];
+    check_cases(&rt, rt.alloc(), &TEN_TURNS, &cases)
+}
+
+#[test]
+fn jumps_go_to_their_targets(rt: HostRuntime) -> Result<(), Fail> {
+    // a jump to 0x00010008 by a register, a call, and the end
+    let ahead = &[0x0000_0297, 0x0082_80E7, 0x0000_0073];
+    let cases = [
+        to_the_end(
+            listing(
+                16,
+                &[],
+                &[],
+                1,
+                &[TARGETS, 0x1_0004, 0, 2, 0x1_0000, 0x1_000C],
+            ),
+            broken(1, 0),
+        ),
+        to_the_end(
+            listing(
+                16,
+                &[],
+                &[],
+                1,
+                &[TARGETS, 0x1_0004, 0, 2, 0x1_0000, 0x1_0008],
+            ),
+            Verdict::Met(4),
+        ),
+        to_the_end(
+            listing(
+                16,
+                &[],
+                &[],
+                2,
+                &[TARGETS, 0x1_0000, 0, 0, TARGETS, 0x1_0004, 0, 0],
+            ),
+            broken(1, 1),
+        ),
+    ];
+    check_cases(&rt, rt.alloc(), ahead, &cases)?;
+    // a jump and a branch to no multiple of 4 end the run
+    let aside = &[0x0000_0297, 0x0022_8293, 0x0002_80E7];
+    let no_targets = listing(16, &[], &[], 1, &[TARGETS, 0x1_0008, 0, 0]);
+    check_cases(
+        &rt,
+        rt.alloc(),
+        aside,
+        &[to_the_end(no_targets, Verdict::Met(3))],
+    )?;
+    let cut = listing(16, &[], &[], 1, &[CUT, 0x1_0000, 1, 0]);
+    check_cases(
+        &rt,
+        rt.alloc(),
+        &[0x0000_0363],
+        &[to_the_end(cut, Verdict::Met(1))],
+    )
+}
+
+#[test]
+fn stores_are_dead(rt: HostRuntime) -> Result<(), Fail> {
+    let first = listing(16, &[], &[], 1, &[DEAD, 0x1_0004, 0, 0]);
+    let both = listing(
+        16,
+        &[],
+        &[],
+        2,
+        &[DEAD, 0x1_0004, 0, 0, DEAD, 0x1_0008, 0, 0],
+    );
+    // a store, and a load of what it put
+    let loaded = &[0x0000_0297, 0x0452_A023, 0x0402_A303];
+    check_cases(&rt, rt.alloc(), loaded, &[to_the_end(first, broken(2, 0))])?;
+    // with a store of one byte between, and a load of that byte, or of the one behind it
+    let covered = &[0x0000_0297, 0x0452_A023, 0x0452_8023, 0x0402_C303];
+    let cases = [
+        to_the_end(first, Verdict::Met(5)),
+        to_the_end(both, broken(3, 1)),
+    ];
+    check_cases(&rt, rt.alloc(), covered, &cases)?;
+    let beside = &[0x0000_0297, 0x0452_A023, 0x0452_8023, 0x0412_C303];
+    check_cases(&rt, rt.alloc(), beside, &[to_the_end(both, broken(3, 0))])?;
+    // a call writes the byte in between, if there is input
+    let read = &[
+        0x0000_0597,
+        0x0405_8593,
+        0x0005_8023,
+        0x0010_0613,
+        0x03F0_0893,
+        0x0000_0073,
+        0x0005_C303,
+    ];
+    let put = listing(16, &[], &[], 1, &[DEAD, 0x1_0008, 0, 0]);
+    let with_input = Case {
+        input: b"a",
+        budget: 1_000,
+        tables: put,
+        verdict: Verdict::Met(8),
+    };
+    check_cases(
+        &rt,
+        rt.alloc(),
+        read,
+        &[to_the_end(put, broken(6, 0)), with_input],
+    )
+}
+
+#[test]
+fn code_is_not_replaced(rt: HostRuntime) -> Result<(), Fail> {
+    // the word at 0x00010010 is replaced by the one at 0x0001001C
+    let words = &[
+        0x0000_0297,
+        0x01C2_A303,
+        0x0062_A823,
+        0x05D0_0893,
+        0x0070_0513,
+        0x0000_0073,
+        0x0000_0000,
+        0x0090_0513,
+    ];
+    let code = &[CODE, 0, 0, 0];
+    let dead = &[DEAD, 0x1_0008, 0, 0, CODE, 0, 0, 0];
+    let cases = [
+        to_the_end(listing(16, &[], &[0x1_0010], 1, code), broken(4, 0)),
+        to_the_end(listing(16, &[], &[0x1_0014], 1, code), Verdict::Met(6)),
+        // a fetch of what a store put
+        to_the_end(listing(16, &[], &[], 2, dead), broken(4, 0)),
+        to_the_end(listing(16, &[], &[0x1_0010], 2, dead), broken(4, 0)),
+    ];
+    check_cases(&rt, rt.alloc(), words, &cases)
+}
