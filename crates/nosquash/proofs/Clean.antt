@@ -1,19 +1,19 @@
 -- Counts of squashes and of tasks that are given up stay where each event is safe.
-use Rattle.std.proofs.Common.{◌≡◌, ℕ, ◌+◌, ◌<◌, ◌≤◌, zero, suc, Bool, true, refl, sym, ap, ◌∙◌, subst, arith, inl, inr}
-use Rattle.cells.specs.Run.{State, is_over}
+use Rattle.std.proofs.Common.{◌≡◌, ℕ, ◌<◌, ◌≤◌, zero, suc, refl, arith, inr}
+use Rattle.cells.specs.Run.{State}
 use Rattle.speculation.specs.declared.Counts.{Counts}
 use Rattle.speculation.specs.declared.Effect.{Effect}
 use Rattle.speculation.specs.declared.Effect.TheVariants.{Moved, Forked, Stalled, Halted, Stepped, Done, Committed, Squashed, Ended, Started, Idle}
 use Rattle.speculation.specs.declared.Event.{Event}
 use Rattle.speculation.specs.declared.Event.TheVariants.{Master as MasterEvent, Slave, Commit, Serial as SerialEvent, Restart}
-use Rattle.speculation.specs.Engine.{Model, happens, counted_by, fresh}
+use Rattle.speculation.specs.Engine.{Model, happens, counted_by}
 use Rattle.speculation.specs.Kept.{Holds}
 use Rattle.squash_laws.specs.Tracks.{IsSafe}
 use Rattle.dist_image.specs.Image.{Distilled, IsImage}
 use Rattle.image_world.specs.World.{world}
 use Rattle.image_world.proofs.Known.{known}
 use Rattle.fitting.specs.Fits.{Fits}
-use Rattle.fitting.specs.Fails.{state_at, program, Meets, Reaches}
+use Rattle.fitting.specs.Fails.{program, Meets}
 use Rattle.fitting_laws.specs.Laws.{TracksRun}
 use Rattle.fitting_laws.proofs.Safe.{next_safe}
 use Rattle.schedules.specs.Schedule.{after}

@@ -1,2 +1,3 @@
 pub mod Tracked
 pub mod Clean
+pub mod Checked

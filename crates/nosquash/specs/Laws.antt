@@ -1,11 +1,13 @@
 -- What no squash means for a whole run.
-use Rattle.std.specs.Prelude.{◌≡◌, ℕ, ◌<◌, ◌≤◌, Bool, true}
+use Rattle.std.specs.Prelude.{◌≡◌, ℕ, ◌<◌, ◌≤◌, true}
 use Rattle.cells.specs.Run.{State, is_over}
 use Rattle.speculation.specs.declared.Event.{Event}
 use Rattle.dist_image.specs.Image.{Distilled, IsImage}
 use Rattle.image_world.specs.World.{world}
 use Rattle.fitting.specs.Fits.{Fits}
 use Rattle.fitting.specs.Fails.{state_at, program, Meets}
+use Rattle.assume_list.specs.declared.verdict.Verdict.{Verdict}
+use Rattle.assume_list.specs.declared.verdict.Verdict.TheVariants.{Met, Broken}
 use Rattle.schedules.specs.Schedule.{after}
 
 -- the run ends within n steps
@@ -18,3 +20,8 @@ RunsLoseNothing =
     (start : State) (image : Distilled) (slaves n : ℕ) → IsImage image → 0 < slaves → Fits (program start) image → Meets start image n → EndsWithin start n
     → (event : ℕ → Event) (k : ℕ)
     → ((after (world start image slaves) event k).counts.squashed ≡ 0) × ((after (world start image slaves) event k).counts.dropped ≡ 0)
+
+-- the verdict on a run tells an assumption that is broken before this position
+abbrev pub BreaksBefore : Verdict → ℕ → Type 0
+BreaksBefore (Met n) far = ⊥
+BreaksBefore (Broken i k) far = i < far

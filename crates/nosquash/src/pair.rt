@@ -26,6 +26,9 @@ impl<M: Memory> Pair<M> {
     ghost use Rattle.seq_machine.specs.Parts.{loaded, start_of as program_start};
     ghost use Rattle.fitting.specs.Fits.{Fits};
     ghost use Rattle.fitting.specs.Fails.{program as words_of, Meets, Reaches};
+    ghost use Rattle.assume_list.specs.declared.verdict.Verdict.{Verdict};
+    ghost use Rattle.assume_list.specs.Verdicts.{IsVerdict};
+    ghost use Rattle.nosquash.specs.Laws.{BreaksBefore};
     ghost use Rattle.engine.specs.Shown.{MayTake};
     ghost use Rattle.engine.specs.Whole.{world_of};
 
@@ -49,7 +52,9 @@ impl<M: Memory> Pair<M> {
     ///
     /// Let the image fit the program, and let the first n steps of the run meet its list. Where the
     /// task limit past the committed position is at most n, and also where the run ends within n
-    /// steps, the event squashes no task and gives none up with a committed one.
+    /// steps, the event squashes no task and gives none up with a committed one. Where it does, and the
+    /// image fits, `check_run` tells an assumption that is broken less than a task limit past the
+    /// committed position.
     ///
     /// # Errors
     ///
@@ -75,6 +80,11 @@ impl<M: Memory> Pair<M> {
         ensures broken { let start = start_of M.at self.old.engine in let image = image_of self.old.engine in
             IfOk result (λ effect. (IsSafe effect → ⊥) → Fits (words_of start) image → (n : ℕ) → Meets start image n
             → n < (model_of M.at self.old.engine).position + image.limit) }
+        // And a check of the run, a task limit past the committed position at least, tells where.
+        ensures checked { let start = start_of M.at self.old.engine in let image = image_of self.old.engine in
+            let far = (model_of M.at self.old.engine).position + image.limit in
+            IfOk result (λ effect. (IsSafe effect → ⊥) → Fits (words_of start) image → (budget : ℕ) (v : Verdict) → far ≤ budget
+            → IsVerdict start image budget v → BreaksBefore v far) }
     {
         self.engine.event(alloc, e)
     }
