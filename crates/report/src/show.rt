@@ -73,8 +73,8 @@ impl Entry for Note {
     }
 }
 
-// The kind of an assumption.
-fn kind(assumption: &Assumption) -> &'static str
+/// The kind of an assumption.
+pub(crate) fn kind(assumption: &Assumption) -> &'static str
     ensures { result.now ≡ kind_word (premise assumption.now) }
 {
     match assumption {
@@ -87,8 +87,8 @@ fn kind(assumption: &Assumption) -> &'static str
     }
 }
 
-// Puts the address that an assumption speaks of, if there is one.
-fn push_place(out: &mut Vec<u8>, assumption: &Assumption) -> Result<(), AllocError>
+/// Puts the address that an assumption speaks of, if there is one.
+pub(crate) fn push_place(out: &mut Vec<u8>, assumption: &Assumption) -> Result<(), AllocError>
     ensures { OnOk result (out.new.items
         ≡ out.old.items ++ spaced (place_words (premise assumption.now))) }
 {

@@ -1,6 +1,9 @@
 //! Texts that are written out by hand, and a sink that fails amid a long one.
 
+ghost use Rattle.std.specs.Prelude.{◌≡◌, length, IfOk};
+
 use super::*;
+use assume_list::Verdict;
 use cells::{Cell, Differ, End};
 use dist_image::{Anchor, Assumption, Image, Note, Slot, empty_image};
 use outside::{MemSink, SinkErr, SureSink};
@@ -9,7 +12,9 @@ use std::alloc::{AllocError, Global};
 use std::test::Fail;
 
 /// An image with a line of every form.
-fn every_form(alloc: Global) -> Result<Image, AllocError> {
+fn every_form(alloc: Global) -> Result<Image, AllocError>
+    ensures { IfOk result (λ image. length image.assumptions ≡ 8) }
+{
     let slots = vec![in alloc;
         Slot::Fork { anchor: 0 },
         Slot::Exec {
@@ -176,6 +181,36 @@ ended misfetch 00010002
 halted spent
 done full
 committed 16384 dropped 63
+";
+    assert_eq!(rt; sink.bytes(), text.as_bytes());
+    Ok(())
+}
+
+#[test]
+fn verdicts_have_lines(rt: HostRuntime) -> Result<(), Fail> {
+    let alloc = rt.alloc();
+    let image = every_form(alloc)?;
+    let mut sink = SureSink::new(alloc);
+    put_verdict(alloc, &mut sink, &image, &Verdict::Met(1_000_000_000_000))?;
+    let cut = Verdict::Broken {
+        position: 7,
+        which: 1,
+    };
+    put_verdict(alloc, &mut sink, &image, &cut)?;
+    let targets = Verdict::Broken {
+        position: 0,
+        which: 3,
+    };
+    put_verdict(alloc, &mut sink, &image, &targets)?;
+    let span = Verdict::Broken {
+        position: 41,
+        which: 7,
+    };
+    put_verdict(alloc, &mut sink, &image, &span)?;
+    let text = "met 1000000000000
+broken 7 cut 0001000c
+broken 0 targets 00010014
+broken 41 span
 ";
     assert_eq!(rt; sink.bytes(), text.as_bytes());
     Ok(())
