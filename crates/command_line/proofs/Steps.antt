@@ -6,7 +6,7 @@ use Rattle.std.proofs.lemmas.Bool.Decides.{nat_tests}
 use Rattle.command_line.specs.declared.options.Kind.{Kind}
 use Rattle.command_line.specs.Number.{number_of, within, number_within}
 use Rattle.command_line.specs.Options.{same, takes, value_of, number_or, may_precede, are_options, IsNumberIfGiven}
-use Rattle.command_line.specs.Command.{run_options, replay_options}
+use Rattle.command_line.specs.Command.{run_options, replay_options, walk_options, distill_options}
 
 pub list_any-map : {A B : Type 0} (test : B → Bool) (f : A → B) (xs : List A) → list_any test (map f xs) ≡ list_any (λ x. test (f x)) xs
 list_any-map test f [] = refl
@@ -106,3 +106,48 @@ slaves-between words h = number-between replay_options (codes "--slaves") 1 64 4
 pub slaves-given : (words : List (List ℕ)) → are_options replay_options words ≡ true → IsNumberIfGiven (codes "--slaves") words
 unfolding takes
 slaves-given words h = number-given replay_options (codes "--slaves") 1 64 (lit< tt) (λ v e. grind (arith, e)) words h
+
+-- `--budget` of `profile` and of `check` is a number from 1 to 10^12
+pub walk-budget-between : (words : List (List ℕ)) → are_options walk_options words ≡ true → (1 ≤ number_or (10 ^ 9) (codes "--budget") words) × (number_or (10 ^ 9) (codes "--budget") words ≤ 10 ^ 12)
+unfolding takes
+walk-budget-between words h = number-between walk_options (codes "--budget") 1 (10 ^ 12) (10 ^ 9) (omega arith) (omega arith) (λ v e. grind (arith, e)) words h
+
+pub walk-budget-given : (words : List (List ℕ)) → are_options walk_options words ≡ true → IsNumberIfGiven (codes "--budget") words
+unfolding takes
+walk-budget-given words h = number-given walk_options (codes "--budget") 1 (10 ^ 12) (lit< tt) (λ v e. grind (arith, e)) words h
+
+-- `--rare` is a number from 0 to 100
+pub rare-between : (words : List (List ℕ)) → are_options distill_options words ≡ true → (0 ≤ number_or 10 (codes "--rare") words) × (number_or 10 (codes "--rare") words ≤ 100)
+unfolding takes
+rare-between words h = number-between distill_options (codes "--rare") 0 100 10 (omega arith) (omega arith) (λ v e. grind (arith, e)) words h
+
+pub rare-given : (words : List (List ℕ)) → are_options distill_options words ≡ true → IsNumberIfGiven (codes "--rare") words
+unfolding takes
+rare-given words h = number-given distill_options (codes "--rare") 0 100 (lit< tt) (λ v e. grind (arith, e)) words h
+
+-- `--hot` is a number from 1 to 10^12
+pub hot-between : (words : List (List ℕ)) → are_options distill_options words ≡ true → (1 ≤ number_or 2 (codes "--hot") words) × (number_or 2 (codes "--hot") words ≤ 10 ^ 12)
+unfolding takes
+hot-between words h = number-between distill_options (codes "--hot") 1 (10 ^ 12) 2 (omega arith) (omega arith) (λ v e. grind (arith, e)) words h
+
+pub hot-given : (words : List (List ℕ)) → are_options distill_options words ≡ true → IsNumberIfGiven (codes "--hot") words
+unfolding takes
+hot-given words h = number-given distill_options (codes "--hot") 1 (10 ^ 12) (lit< tt) (λ v e. grind (arith, e)) words h
+
+-- `--goal` is a number from 1 to 65536
+pub goal-between : (words : List (List ℕ)) → are_options distill_options words ≡ true → (1 ≤ number_or 200 (codes "--goal") words) × (number_or 200 (codes "--goal") words ≤ 65536)
+unfolding takes
+goal-between words h = number-between distill_options (codes "--goal") 1 65536 200 (omega arith) (omega arith) (λ v e. grind (arith, e)) words h
+
+pub goal-given : (words : List (List ℕ)) → are_options distill_options words ≡ true → IsNumberIfGiven (codes "--goal") words
+unfolding takes
+goal-given words h = number-given distill_options (codes "--goal") 1 65536 (lit< tt) (λ v e. grind (arith, e)) words h
+
+-- `--limit` is a number from 16 to 16384
+pub limit-between : (words : List (List ℕ)) → are_options distill_options words ≡ true → (16 ≤ number_or 4096 (codes "--limit") words) × (number_or 4096 (codes "--limit") words ≤ 16384)
+unfolding takes
+limit-between words h = number-between distill_options (codes "--limit") 16 16384 4096 (omega arith) (omega arith) (λ v e. grind (arith, e)) words h
+
+pub limit-given : (words : List (List ℕ)) → are_options distill_options words ≡ true → IsNumberIfGiven (codes "--limit") words
+unfolding takes
+limit-given words h = number-given distill_options (codes "--limit") 16 16384 (lit< tt) (λ v e. grind (arith, e)) words h

@@ -1,9 +1,11 @@
 -- What the words of the command line ask for. A word is its bytes.
 use Rattle.std.specs.Prelude.{ℕ, ◌^◌, ◌&&◌, if◌then◌else◌, List, [], ◌∷◌, codes, option_map, option_copied, is_some, is_none, Option, Some, None}
 use Rattle.command_line.specs.declared.commands.Command.{Command as ReadCommand}
-use Rattle.command_line.specs.declared.commands.Command.TheVariants.{Run as ReadRun, Show as ReadShow, Replay as ReadReplay}
+use Rattle.command_line.specs.declared.commands.Command.TheVariants.{Run as ReadRun, Show as ReadShow, Replay as ReadReplay, Profile as ReadProfile, Distill as ReadDistill, Check as ReadCheck}
 use Rattle.command_line.specs.declared.commands.Run.{Run as ReadRunCommand}
 use Rattle.command_line.specs.declared.commands.Replay.{Replay as ReadReplayCommand}
+use Rattle.command_line.specs.declared.commands.Walk.{Walk as ReadWalkCommand}
+use Rattle.command_line.specs.declared.commands.Distill.{Distill as ReadDistillCommand}
 use Rattle.command_line.specs.declared.options.Kind.{Kind}
 use Rattle.command_line.specs.declared.options.Kind.TheVariants.{File, Number}
 use Rattle.command_line.specs.Options.{same, is_name, value_of, number_or, are_options}
@@ -25,11 +27,31 @@ pub record ReplayCommand : Type 0 where
   pub input : Option (List ℕ)
   pub slaves : ℕ
 
+-- `profile PROG OUT` and `check PROG IMAGE`: the names of the program, of the other file and of the input, if there is one, and the number of steps
+pub record WalkCommand : Type 0 where
+  pub program : List ℕ
+  pub other : List ℕ
+  pub input : Option (List ℕ)
+  pub budget : ℕ
+
+-- `distill PROG PROFILE OUT`: the names of the program, of the profile and of the image that is written, and the numbers that say how it is made
+pub record DistillCommand : Type 0 where
+  pub program : List ℕ
+  pub profile : List ℕ
+  pub output : List ℕ
+  pub rare : ℕ
+  pub hot : ℕ
+  pub goal : ℕ
+  pub limit : ℕ
+
 -- a command; `show IMAGE` has the name of the image
 pub data Command : Type 0 where
   Run : RunCommand → Command
   Show : (image : List ℕ) → Command
   Replay : ReplayCommand → Command
+  Profile : WalkCommand → Command
+  Distill : DistillCommand → Command
+  Check : WalkCommand → Command
 
 -- the options of `run`
 abbrev pub run_options : List (List ℕ × Kind)
@@ -80,6 +102,51 @@ replay_of (program ∷ image ∷ events ∷ options) =
     })
     else None
 
+-- the options of `profile` and `check`
+abbrev pub walk_options : List (List ℕ × Kind)
+walk_options = (codes "--input", File) ∷ (codes "--budget", Number 1 (10 ^ 12)) ∷ []
+
+-- what the words after `profile` or `check` ask for: two names, and then options
+abbrev pub walk_of : List (List ℕ) → Option WalkCommand
+walk_of [] = None
+walk_of (program ∷ []) = None
+walk_of (program ∷ other ∷ options) =
+    if is_name program && is_name other && are_options walk_options options
+    then Some (record {
+      program = program;
+      other = other;
+      input = value_of (codes "--input") options;
+      budget = number_or (10 ^ 9) (codes "--budget") options;
+    })
+    else None
+
+-- the options of `distill`
+abbrev pub distill_options : List (List ℕ × Kind)
+distill_options =
+    (codes "--rare", Number 0 100) ∷ (codes "--hot", Number 1 (10 ^ 12)) ∷ (codes "--goal", Number 1 65536) ∷ (codes "--limit", Number 16 16384) ∷ []
+
+-- a distillation with options
+abbrev pub distill_with : List ℕ → List ℕ → List ℕ → List (List ℕ) → DistillCommand
+distill_with program profile output options = record {
+  program = program;
+  profile = profile;
+  output = output;
+  rare = number_or 10 (codes "--rare") options;
+  hot = number_or 2 (codes "--hot") options;
+  goal = number_or 200 (codes "--goal") options;
+  limit = number_or 4096 (codes "--limit") options;
+}
+
+-- what the words after `distill` ask for: three names, and then options
+abbrev pub distill_of : List (List ℕ) → Option DistillCommand
+distill_of [] = None
+distill_of (program ∷ []) = None
+distill_of (program ∷ profile ∷ []) = None
+distill_of (program ∷ profile ∷ output ∷ options) =
+    if is_name program && is_name profile && is_name output && are_options distill_options options
+    then Some (distill_with program profile output options)
+    else None
+
 -- the command that the words are, or None where they are none
 abbrev pub command_of : List (List ℕ) → Option Command
 command_of [] = None
@@ -87,6 +154,9 @@ command_of (command ∷ words) =
     if same command (codes "run") then option_map Run (run_of words)
     else if same command (codes "show") then show_of words
     else if same command (codes "replay") then option_map Replay (replay_of words)
+    else if same command (codes "profile") then option_map Profile (walk_of words)
+    else if same command (codes "distill") then option_map Distill (distill_of words)
+    else if same command (codes "check") then option_map Check (walk_of words)
     else None
 
 -- a command that was read, as lists of bytes and numbers
@@ -109,7 +179,29 @@ shown_replay replay = record {
   slaves = replay.slaves;
 }
 
+abbrev pub shown_walk : ReadWalkCommand → WalkCommand
+shown_walk walk = record {
+  program = walk.program.now;
+  other = walk.other.now;
+  input = option_copied walk.input;
+  budget = walk.budget;
+}
+
+abbrev pub shown_distill : ReadDistillCommand → DistillCommand
+shown_distill distill = record {
+  program = distill.program.now;
+  profile = distill.profile.now;
+  output = distill.output.now;
+  rare = distill.rare;
+  hot = distill.hot;
+  goal = distill.goal;
+  limit = distill.limit;
+}
+
 abbrev pub shown : ReadCommand → Command
 shown (ReadRun run) = Run (shown_run run)
 shown (ReadShow image) = Show image.now
 shown (ReadReplay replay) = Replay (shown_replay replay)
+shown (ReadProfile walk) = Profile (shown_walk walk)
+shown (ReadDistill distill) = Distill (shown_distill distill)
+shown (ReadCheck walk) = Check (shown_walk walk)

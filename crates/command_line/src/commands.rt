@@ -40,6 +40,47 @@ pub struct Replay<'a> {
     pub ghost few: { slaves ≤ 64 },
 }
 
+/// `profile PROG OUT` and `check PROG IMAGE`: take a program through its run.
+#[derive(Clone, Copy, Debug, PartialEq, Eq)]
+pub struct Walk<'a> {
+    /// The name of the program's file.
+    pub program: &'a str,
+    /// The name of the other file: the profile that `profile` writes, or the image that `check` reads.
+    pub other: &'a str,
+    /// The name of the file that the program reads; without one its input is empty.
+    pub input: Option<&'a str>,
+    /// How many steps the run may take, from 1 to 10^12.
+    pub budget: u64,
+    pub ghost least: { 1 ≤ budget },
+    pub ghost most: { budget ≤ 10 ^ 12 },
+}
+
+/// `distill PROG PROFILE OUT`: makes an image from a profile.
+#[derive(Clone, Copy, Debug, PartialEq, Eq)]
+pub struct Distill<'a> {
+    /// The name of the program's file.
+    pub program: &'a str,
+    /// The name of the profile's file.
+    pub profile: &'a str,
+    /// The name of the file that the image is written to.
+    pub output: &'a str,
+    /// Up to how many turns in a thousand a side of a branch may be taken to be cut, from 0 to 100.
+    pub rare: u32,
+    /// How often a jump's target has to be executed to be an anchor, from 1 to 10^12.
+    pub hot: u64,
+    /// How many steps a task is to take, from 1 to 65,536.
+    pub goal: u32,
+    /// How many steps a task takes at most, from 16 to 16,384.
+    pub limit: u32,
+    pub ghost most_rare: { rare ≤ 100 },
+    pub ghost least_hot: { 1 ≤ hot },
+    pub ghost most_hot: { hot ≤ 10 ^ 12 },
+    pub ghost least_goal: { 1 ≤ goal },
+    pub ghost most_goal: { goal ≤ 65536 },
+    pub ghost least_limit: { 16 ≤ limit },
+    pub ghost most_limit: { limit ≤ 16384 },
+}
+
 /// What the words ask for.
 #[derive(Clone, Copy, Debug, PartialEq, Eq)]
 pub enum Command<'a> {
@@ -52,4 +93,10 @@ pub enum Command<'a> {
     },
     /// `replay`.
     Replay(Replay<'a>),
+    /// `profile`: writes the profile of a run.
+    Profile(Walk<'a>),
+    /// `distill`.
+    Distill(Distill<'a>),
+    /// `check`: tells whether a run meets the assumptions of an image.
+    Check(Walk<'a>),
 }

@@ -5,17 +5,21 @@ ghost use Rattle.std.specs.Prelude.{◌≡◌, map, option_map, string_bytes};
 ghost use Rattle.command_line.specs.Command.{command_of, show_of, shown};
 
 mod commands;
+mod distill_words;
 mod number;
 mod options;
 mod replay_words;
 mod run_words;
 #[cfg(test)]
 mod tests;
+mod walk_words;
 
-pub use crate::commands::{Command, Replay, Run};
+pub use crate::commands::{Command, Distill, Replay, Run, Walk};
+use crate::distill_words::read_distill;
 use crate::options::{Rule, are_options};
 use crate::replay_words::read_replay;
 use crate::run_words::read_run;
+use crate::walk_words::read_walk;
 
 /// The options of `show`.
 const SHOW_OPTIONS: [Rule; 0] = [];
@@ -47,6 +51,9 @@ fn read_show(words: &[String]) -> Option<Command<'_>>
 /// | `run PROG` | `--image F`, `--input F`, `--report F`, `--slaves` 1 to 64 (4), `--budget` 1 to 10^12 (10^9) |
 /// | `show IMAGE` | |
 /// | `replay PROG IMAGE EVENTS` | `--input F`, `--slaves` 1 to 64 (4) |
+/// | `profile PROG OUT` | `--input F`, `--budget` 1 to 10^12 (10^9) |
+/// | `distill PROG PROFILE OUT` | `--rare` 0 to 100 (10), `--hot` 1 to 10^12 (2), `--goal` 1 to 65,536 (200), `--limit` 16 to 16,384 (4,096) |
+/// | `check PROG IMAGE` | `--input F`, `--budget` 1 to 10^12 (10^9) |
 pub fn read_command(words: &[String]) -> Option<Command<'_>>
     ensures { option_map shown result ≡ command_of (map string_bytes words.now) }
 {
@@ -55,6 +62,9 @@ pub fn read_command(words: &[String]) -> Option<Command<'_>>
         "run" => read_run(rest).map(Command::Run),
         "show" => read_show(rest),
         "replay" => read_replay(rest).map(Command::Replay),
+        "profile" => read_walk(rest).map(Command::Profile),
+        "distill" => read_distill(rest).map(Command::Distill),
+        "check" => read_walk(rest).map(Command::Check),
         _ => None,
     }
 }

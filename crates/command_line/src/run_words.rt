@@ -8,10 +8,10 @@ use crate::options::{Kind, Rule, are_options, number_or, value_of};
 use crate::replay_words::{DEFAULT_SLAVES, MOST_SLAVES};
 
 /// The most steps that a run may be given.
-const MOST_BUDGET: u64 = 1_000_000_000_000;
+pub(crate) const MOST_BUDGET: u64 = 1_000_000_000_000;
 
 /// How many steps a run is given without `--budget`.
-const DEFAULT_BUDGET: u64 = 1_000_000_000;
+pub(crate) const DEFAULT_BUDGET: u64 = 1_000_000_000;
 
 /// The options of `run`.
 const RUN_OPTIONS: [Rule; 5] = [

@@ -154,8 +154,87 @@ fn reads_replays(rt: HostRuntime) -> Result<(), Fail> {
 }
 
 #[test]
+fn reads_profiles_and_checks(rt: HostRuntime) -> Result<(), Fail> {
+    let cases: [(&[&str], Option<&str>, u64); 6] = [
+        (&[], None, 1_000_000_000),
+        (&["--input", "f"], Some("f"), 1_000_000_000),
+        (&["--budget", "1"], None, 1),
+        (&["--budget", "1000000000000"], None, 1_000_000_000_000),
+        (&["--input", "f", "--budget", "45"], Some("f"), 45),
+        (
+            &["--budget", "45", "--input", "--budget"],
+            Some("--budget"),
+            45,
+        ),
+    ];
+    for (options, input, budget) in cases {
+        let mut profile = words_of(rt.alloc(), &["profile", "p", "--input"])?;
+        let mut check = words_of(rt.alloc(), &["check", "p", "--input"])?;
+        for option in options {
+            profile.push(String::from_str(rt.alloc(), option)?)?;
+            check.push(String::from_str(rt.alloc(), option)?)?;
+        }
+        let want = Walk {
+            program: "p",
+            other: "--input",
+            input,
+            budget,
+        };
+        assert_eq!(rt;
+            read_command(&profile),
+            Some(Command::Profile(want)),
+            "at {options:?}"
+        );
+        assert_eq!(rt;
+            read_command(&check),
+            Some(Command::Check(want)),
+            "at {options:?}"
+        );
+    }
+    Ok(())
+}
+
+#[test]
+fn reads_distillations(rt: HostRuntime) -> Result<(), Fail> {
+    let cases: [(&[&str], u32, u64, u32, u32); 5] = [
+        (&[], 10, 2, 200, 4_096),
+        (&["--rare", "0", "--hot", "1"], 0, 1, 200, 4_096),
+        (&["--goal", "1", "--limit", "16"], 10, 2, 1, 16),
+        (&["--limit", "16384", "--rare", "100"], 100, 2, 200, 16_384),
+        (
+            &["--hot", "1000000000000", "--goal", "65536"],
+            10,
+            1_000_000_000_000,
+            65_536,
+            4_096,
+        ),
+    ];
+    for (options, rare, hot, goal, limit) in cases {
+        let mut words = words_of(rt.alloc(), &["distill", "p", "f", "--rare"])?;
+        for option in options {
+            words.push(String::from_str(rt.alloc(), option)?)?;
+        }
+        let want = Distill {
+            program: "p",
+            profile: "f",
+            output: "--rare",
+            rare,
+            hot,
+            goal,
+            limit,
+        };
+        assert_eq!(rt;
+            read_command(&words),
+            Some(Command::Distill(want)),
+            "at {options:?}"
+        );
+    }
+    Ok(())
+}
+
+#[test]
 fn refuses_other_words(rt: HostRuntime) -> Result<(), Fail> {
-    let cases: [&[&str]; 53] = [
+    let cases: [&[&str]; 75] = [
         &[],
         &[""],
         &["run"],
@@ -209,6 +288,28 @@ fn refuses_other_words(rt: HostRuntime) -> Result<(), Fail> {
         &["replay", "p", "i", "e", "--slaves", "04"],
         &["replay", "p", "i", "e", "--slaves", "4", "--slaves", "4"],
         &["replay", "p", "i", "e", "--budget", "1"],
+        &["profile", "p"],
+        &["profile", "", "o"],
+        &["profile", "p", ""],
+        &["profile", "p", "o", "--budget", "0"],
+        &["profile", "p", "o", "--budget", "1000000000001"],
+        &["profile", "p", "o", "--slaves", "4"],
+        &["check", "p"],
+        &["check", "p", "i", "--report", "r"],
+        &["check", "p", "i", "--budget", "1", "--budget", "1"],
+        &["distill", "p", "f"],
+        &["distill", "", "f", "o"],
+        &["distill", "p", "", "o"],
+        &["distill", "p", "f", ""],
+        &["distill", "p", "f", "o", "--rare", "101"],
+        &["distill", "p", "f", "o", "--hot", "0"],
+        &["distill", "p", "f", "o", "--hot", "1000000000001"],
+        &["distill", "p", "f", "o", "--goal", "0"],
+        &["distill", "p", "f", "o", "--goal", "65537"],
+        &["distill", "p", "f", "o", "--limit", "15"],
+        &["distill", "p", "f", "o", "--limit", "16385"],
+        &["distill", "p", "f", "o", "--rare", "00"],
+        &["distill", "p", "f", "o", "--input", "i"],
     ];
     for texts in cases {
         let words = words_of(rt.alloc(), texts)?;
