@@ -11,7 +11,7 @@ use Rattle.image_world.specs.World.{world}
 use Rattle.schedules.specs.Schedule.{after, has_come}
 use Rattle.report.proofs.Gained.{part_before}
 use Rattle.mssp_tool.specs.declared.answer.Answer.{Answer}
-use Rattle.mssp_tool.specs.declared.answer.Answer.TheVariants.{Usage, Absent, StoreFault, SinkFault, Memory, TooLong, Refused, Done, Ran, Budget}
+use Rattle.mssp_tool.specs.declared.answer.Answer.TheVariants.{Usage, Absent, StoreFault, SinkFault, Memory, TooLong, Refused, Done, Ran, Budget, Broken}
 use Rattle.mssp_tool.specs.declared.speculating.Schedule.{Schedule}
 use Rattle.mssp_tool.specs.Driven.{Stops, CutOff}
 use Rattle.mssp_tool.specs.Speculated.{events_of, IsStop}
@@ -73,6 +73,7 @@ module _ (start : State) (image : Distilled) (slaves : ℕ) (ok : IsImage image)
       stopped_there left before mid_faults now Memory l same =
           subst (λ d. (k : ℕ) × IsStop w event far k × CutOff (record { told = told; left = d; before = before; now = now }) (output k) Memory) (sym same) (no_memory before now)
       stopped_there left before mid_faults now Usage l h = absurd h
+      stopped_there left before mid_faults now Broken l h = absurd h
       stopped_there left before mid_faults now (Absent x) l h = absurd h
       stopped_there left before mid_faults now (StoreFault x) l h = absurd h
       stopped_there left before mid_faults now (TooLong x) l h = absurd h

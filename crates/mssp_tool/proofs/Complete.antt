@@ -1,24 +1,27 @@
 -- Where the store tells and nothing fails, an answer with its cause is the one that the files determine, or want of memory.
 use Rattle.std.proofs.Common.{◌≡◌, ℕ, ◌≤◌, ◌<◌, ◌⊎◌, inl, inr, List, length, Option, Some, None, refl, sym, ap, ◌∙◌, arith}
-use Rattle.std.specs.Prelude.{nat_lt}
+use Rattle.std.specs.Prelude.{nat_lt, nat_eq, cond, false, ◌≢◌, [], ◌∷◌}
 use Rattle.std.specs.FinMap as finite
 use Rattle.std.proofs.lemmas.Bool.{cond-true, cond-false}
 use Rattle.std.proofs.lemmas.Bool.Decides.{nat_tests}
 use Rattle.outside.specs.Files.{Files}
-use Rattle.command_line.specs.Command.{Command, Run, Show, Replay, RunCommand, ReplayCommand}
+use Rattle.command_line.specs.Command.{Command, Run, Show, Replay, Profile, Distill, Check, RunCommand, ReplayCommand, WalkCommand, DistillCommand}
 use Rattle.dist_image.specs.Image.{Distilled}
 use Rattle.dist_image.specs.Reading.{image_from}
 use Rattle.elf_reader.specs.Refusal.{refusal}
 use Rattle.speculation.specs.declared.Event.{Event}
 use Rattle.event_list.specs.Reading.{list_in, written_out}
+use Rattle.profile_data.specs.Profile.{Profiled}
+use Rattle.profile_laws.specs.Profiles.{steps}
+use Rattle.profile_laws.specs.Tally.{kept}
 use Rattle.report.specs.Show.{image_text}
 use Rattle.mssp_tool.specs.declared.answer.Source.{Source}
 use Rattle.mssp_tool.specs.declared.answer.Source.TheVariants as source
 use Rattle.mssp_tool.specs.declared.answer.Refusal.TheVariants as refused
 use Rattle.mssp_tool.specs.declared.answer.Answer.{Answer}
-use Rattle.mssp_tool.specs.declared.answer.Answer.TheVariants.{Usage, Absent, StoreFault, SinkFault, Memory, TooLong, Refused, Done, Ran, Budget}
+use Rattle.mssp_tool.specs.declared.answer.Answer.TheVariants.{Usage, Absent, StoreFault, SinkFault, Memory, TooLong, Refused, Done, Ran, Budget, Broken}
 use Rattle.mssp_tool.specs.Told.{Reads, Puts, Fails, PutFails, Delivered}
-use Rattle.mssp_tool.specs.Files.{IsReadFrom, NotRead, of_file, IsProgramOf, NoProgram, unless_refused, of_program, HasImage, NoImage, of_reading, of_image, IsNamedImage, NoNamedImage, of_named_image, HasEvents, NoEvents, of_events, IsInput, NoInput, of_input, program_limit, image_limit, events_limit, input_limit}
+use Rattle.mssp_tool.specs.Files.{IsReadFrom, NotRead, of_file, IsProgramOf, NoProgram, unless_refused, of_program, HasImage, NoImage, of_reading, of_image, IsNamedImage, NoNamedImage, of_named_image, HasEvents, NoEvents, of_events, IsInput, NoInput, of_input, Saved, HasProfile, NoProfile, of_profile, program_limit, image_limit, events_limit, profile_limit, input_limit}
 use Rattle.mssp_tool.specs.Driven.{CutOff, Driven, state_after, stands}
 use Rattle.mssp_tool.specs.Run.{Unready, AreRunFiles, RunFrom, RunCause, start_from, world_from, run_answer}
 use Rattle.mssp_tool.specs.Speculated.{schedule_of, events_of, IsStop, Stopped}
@@ -26,6 +29,15 @@ use Rattle.schedules.specs.Schedule.{after}
 use Rattle.mssp_tool.proofs.Exact.{stands_so}
 use Rattle.mssp_tool.specs.Show.{ShowCause, show_answer}
 use Rattle.mssp_tool.specs.Replay.{Wanting, ReplayCause, replay_bytes, replay_answer}
+use Rattle.mssp_tool.specs.Profile.{Unprofiled, IsProfileFrom, Profiles, ProfileCause, is_wide, profile_answer}
+use Rattle.profile_data.specs.Reading.{profile_from}
+use Rattle.distill_rules.specs.Analysed.{analysed}
+use Rattle.assume_list.specs.declared.verdict.Verdict.{Verdict}
+use Rattle.mssp_tool.specs.Check.{Unchecked, verdict_answer, Judged, CheckCause, is_met, check_answer}
+use Rattle.mssp_tool.proofs.Checks.{verdict_tested}
+use Rattle.mssp_tool.specs.Distill.{Undistilled, Distills, DistillCause, distill_answer}
+use Rattle.elf_reader.specs.Accepted.{program_of}
+use Rattle.mssp_tool.proofs.Profiles.{wide_tested, narrow_tested, its_rows}
 use Rattle.mssp_tool.specs.Top.{Cause, answer_of}
 
 -- a told file within its limit leads on
@@ -34,6 +46,11 @@ found file bytes limit s k e l = ap (λ f. of_file f limit s k) e ∙ cond-false
 
 longer : (file : Option (List ℕ)) (bytes : List ℕ) (limit : ℕ) (s : Source) (k : List ℕ → Answer) → file ≡ Some bytes → limit < length bytes → of_file file limit s k ≡ TooLong s
 longer file bytes limit s k e l = ap (λ f. of_file f limit s k) e ∙ cond-true (nat_lt limit (length bytes)) (TooLong s) (k bytes) (grind (arith, nat_tests))
+
+-- a list that isn't empty has a length
+some_tested : (xs : List ℕ) → xs ≢ [] → nat_eq (length xs) 0 ≡ false
+some_tested [] h = absurd (h refl)
+some_tested (x ∷ xs) h = grind (arith, nat_tests)
 
 -- it is this answer, or want of memory
 abbrev Is : Answer → Answer → Type 0
@@ -64,6 +81,7 @@ module _ (store : Reads) (out : Puts) (files : Files) (told : store.told ≡ Som
   not_read name limit s k (StoreFault t) (same, r) = absurd (reads r)
   not_read name limit s k Memory h = inr refl
   not_read name limit s k Usage h = absurd h
+  not_read name limit s k Broken h = absurd h
   not_read name limit s k SinkFault h = absurd h
   not_read name limit s k (Refused e) h = absurd h
   not_read name limit s k Done h = absurd h
@@ -101,6 +119,14 @@ module _ (store : Reads) (out : Puts) (files : Files) (told : store.told ≡ Som
   no_events name k a (inr (bytes, e, h, fault, is)) =
       inl (is ∙ sym (read name bytes events_limit source.Events (λ b. of_reading (list_in b) refused.Events k) h ∙ ap (λ r. of_reading r refused.Events k) fault))
 
+  profile : (name : List ℕ) (f : Profiled) (k : Profiled → Answer) → HasProfile store.told name f → of_profile files name k ≡ k f
+  profile name f k (bytes, h) = read name bytes profile_limit source.Profile (λ b. of_reading (profile_from b) refused.Profile k) h.read ∙ ap (λ r. of_reading r refused.Profile k) h.accepted
+
+  no_profile : (name : List ℕ) (k : Profiled → Answer) (a : Answer) → NoProfile store name a → Is a (of_profile files name k)
+  no_profile name k a (inl h) = not_read name profile_limit source.Profile (λ b. of_reading (profile_from b) refused.Profile k) a h
+  no_profile name k a (inr (bytes, e, h, fault, is)) =
+      inl (is ∙ sym (read name bytes profile_limit source.Profile (λ b. of_reading (profile_from b) refused.Profile k) h ∙ ap (λ r. of_reading r refused.Profile k) fault))
+
   input : (named : Option (List ℕ)) (i : List ℕ) (k : List ℕ → Answer) → IsInput store.told named i → of_input files named k ≡ k i
   input None i k e = ap k (sym e)
   input (Some name) i k h = read name i input_limit source.Input k h
@@ -115,6 +141,7 @@ module _ (store : Reads) (out : Puts) (files : Files) (told : store.told ≡ Som
   delivered text SinkFault (rose, part) = absurd (puts rose)
   delivered text Memory part = inr refl
   delivered text Usage h = absurd h
+  delivered text Broken h = absurd h
   delivered text (Absent s) h = absurd h
   delivered text (StoreFault s) h = absurd h
   delivered text (TooLong s) h = absurd h
@@ -151,6 +178,7 @@ module _ (store : Reads) (out : Puts) (files : Files) (told : store.told ≡ Som
       cut_off text SinkFault (rose, part) = absurd (puts rose)
       cut_off text Memory part = inr refl
       cut_off text Usage x = absurd x
+      cut_off text Broken x = absurd x
       cut_off text (Absent s) x = absurd x
       cut_off text (StoreFault s) x = absurd x
       cut_off text (TooLong s) x = absurd x
@@ -165,6 +193,7 @@ module _ (store : Reads) (out : Puts) (files : Files) (told : store.told ≡ Som
       driven SinkFault x = cut_off (state_after r.budget (start_from p i)).env.output SinkFault x
       driven Memory x = cut_off (state_after r.budget (start_from p i)).env.output Memory x
       driven Usage x = absurd x
+      driven Broken x = absurd x
       driven (Absent s) x = absurd x
       driven (StoreFault s) x = absurd x
       driven (TooLong s) x = absurd x
@@ -180,6 +209,7 @@ module _ (store : Reads) (out : Puts) (files : Files) (told : store.told ≡ Som
       stopped left name k SinkFault stop x = cut_off (after (world_from p i im r.slaves) (events_of (schedule_of r.image) r.slaves) k).committed.env.output SinkFault x.0
       stopped left name k Memory stop x = cut_off (after (world_from p i im r.slaves) (events_of (schedule_of r.image) r.slaves) k).committed.env.output Memory x.0
       stopped left name k Usage stop x = absurd x.0
+      stopped left name k Broken stop x = absurd x.0
       stopped left name k (Absent s) stop x = absurd x.0
       stopped left name k (TooLong s) stop x = absurd x.0
       stopped left name k (Refused e) stop x = absurd x.0
@@ -229,8 +259,120 @@ module _ (store : Reads) (out : Puts) (files : Files) (told : store.told ≡ Som
         ∙ input r.input i (λ _. Done) fs.input))
         (delivered (replay_bytes (world_from p i im r.slaves) (written_out list)) a d)
 
+  -- ---- a file that is written
+
+  saved : (left : Option Files) (name bytes : List ℕ) (a : Answer) → Saved store left name bytes a → Is a Done
+  saved left name bytes Done h = inl refl
+  saved left name bytes (StoreFault s) (same, fails, others) = absurd (reads fails)
+  saved left name bytes Memory h = inr refl
+  saved left name bytes Usage h = absurd h
+  saved left name bytes Broken h = absurd h
+  saved left name bytes (Absent s) h = absurd h
+  saved left name bytes SinkFault h = absurd h
+  saved left name bytes (TooLong s) h = absurd h
+  saved left name bytes (Refused r) h = absurd h
+  saved left name bytes (Ran pc end) h = absurd h
+  saved left name bytes Budget h = absurd h
+
+  -- ---- `profile`
+
+  module _ (w : WalkCommand) where
+    abbrev after_profiled_input : List ℕ → List ℕ → Answer
+    after_profiled_input p i = cond (is_wide (kept (start_from p i) (steps (start_from p i) w.budget)).rows) (Refused refused.Wide) Done
+
+    abbrev after_profiled_program : List ℕ → Answer
+    after_profiled_program p = of_input files w.input (after_profiled_input p)
+
+    unprofiled : (a : Answer) → Unprofiled store w a → Is a (profile_answer files w)
+    unprofiled a (inl h) = no_program w.program after_profiled_program a h
+    unprofiled a (inr (inl (p, h, n))) = is_also a (after_profiled_program p) (profile_answer files w) (sym (program w.program p after_profiled_program h)) (no_input w.input (after_profiled_input p) a n)
+    unprofiled a (inr (inr m)) = inr m
+
+    profiled : (left : Option Files) (p i : List ℕ) (f : Profiled) (a : Answer) → IsProfileFrom p i w.budget f → Profiles f store left w.other a → Is a (after_profiled_input p i)
+    profiled left p i f a is (inl (wide, refusal_is, same)) =
+        inl (refusal_is ∙ sym (cond-true (is_wide (kept (start_from p i) (steps (start_from p i) w.budget)).rows) (Refused refused.Wide) Done
+        (ap is_wide (sym (its_rows (start_from p i) (steps (start_from p i) w.budget) f is)) ∙ wide_tested f.rows wide)))
+    profiled left p i f a is (inr (narrow, s)) =
+        is_also a Done (after_profiled_input p i)
+        (sym (cond-false (is_wide (kept (start_from p i) (steps (start_from p i) w.budget)).rows) (Refused refused.Wide) Done
+        (ap is_wide (sym (its_rows (start_from p i) (steps (start_from p i) w.budget) f is)) ∙ narrow_tested f.rows narrow)))
+        (saved left w.other _ a s)
+
+    profile_complete : (left : Option Files) (a : Answer) → ProfileCause store left w a → Is a (profile_answer files w)
+    profile_complete left a (inl (h, same)) = unprofiled a h
+    profile_complete left a (inr (p, i, f, hp, hi, is, s)) =
+        is_also a (after_profiled_input p i) (profile_answer files w) (sym (program w.program p after_profiled_program hp ∙ input w.input i (after_profiled_input p) hi)) (profiled left p i f a is s)
+
+  -- ---- `distill`
+
+  module _ (d : DistillCommand) where
+    abbrev after_profile : Profiled → Answer
+    after_profile f = cond (nat_eq (length (analysed f.rows)) 0) (Refused refused.Empty) Done
+
+    abbrev after_distilled_program : List ℕ → Answer
+    after_distilled_program p = of_profile files d.profile after_profile
+
+    undistilled : (a : Answer) → Undistilled store d a → Is a (distill_answer files d)
+    undistilled a (inl h) = no_program d.program after_distilled_program a h
+    undistilled a (inr (inl (p, h, n))) = is_also a (after_distilled_program p) (distill_answer files d) (sym (program d.program p after_distilled_program h)) (no_profile d.profile after_profile a n)
+    undistilled a (inr (inr m)) = inr m
+
+    distilled : (left : Option Files) (p : List ℕ) (f : Profiled) (a : Answer) → Distills d (program_of p) f store left a → Is a (after_profile f)
+    distilled left p f a (inl (none, refusal_is, same)) =
+        inl (refusal_is ∙ sym (cond-true (nat_eq (length (analysed f.rows)) 0) (Refused refused.Empty) Done (ap (λ (pcs : List ℕ). nat_eq (length pcs) 0) none)))
+    distilled left p f a (inr (some, s)) =
+        is_also a Done (after_profile f) (sym (cond-false (nat_eq (length (analysed f.rows)) 0) (Refused refused.Empty) Done (some_tested (analysed f.rows) some))) (saved left d.output _ a s)
+
+    distill_complete : (left : Option Files) (a : Answer) → DistillCause store left d a → Is a (distill_answer files d)
+    distill_complete left a (inl (h, same)) = undistilled a h
+    distill_complete left a (inr (p, f, hp, hf, s)) =
+        is_also a (after_profile f) (distill_answer files d) (sym (program d.program p after_distilled_program hp ∙ profile d.profile f after_profile hf)) (distilled left p f a s)
+
+  -- ---- `check`
+
+  judged : (i : Distilled) (v : Verdict) (a : Answer) → Judged i v out a → Is a (verdict_answer v)
+  judged i v SinkFault (rose, part) = absurd (puts rose)
+  judged i v Memory part = inr refl
+  judged i v Usage h = inl h.1
+  judged i v (Absent s) h = inl h.1
+  judged i v (StoreFault s) h = inl h.1
+  judged i v (TooLong s) h = inl h.1
+  judged i v (Refused r) h = inl h.1
+  judged i v Done h = inl h.1
+  judged i v (Ran pc end) h = inl h.1
+  judged i v Budget h = inl h.1
+  judged i v Broken h = inl h.1
+
+  module _ (w : WalkCommand) where
+    abbrev after_checked_input : List ℕ → Distilled → List ℕ → Answer
+    after_checked_input p im i = cond (is_met (start_from p i) im (steps (start_from p i) w.budget)) Done Broken
+
+    abbrev after_checked_image : List ℕ → Distilled → Answer
+    after_checked_image p im = of_input files w.input (after_checked_input p im)
+
+    abbrev after_checked_program : List ℕ → Answer
+    after_checked_program p = of_image files w.other (after_checked_image p)
+
+    unchecked : (a : Answer) → Unchecked store w a → Is a (check_answer files w)
+    unchecked a (inl h) = no_program w.program after_checked_program a h
+    unchecked a (inr (inl (p, h, n))) = is_also a (after_checked_program p) (check_answer files w) (sym (program w.program p after_checked_program h)) (no_image w.other (after_checked_image p) a n)
+    unchecked a (inr (inr (inl (p, im, h, hi, n)))) =
+        is_also a (after_checked_image p im) (check_answer files w) (sym (program w.program p after_checked_program h ∙ image w.other im (after_checked_image p) hi)) (no_input w.input (after_checked_input p im) a n)
+    unchecked a (inr (inr (inr m))) = inr m
+
+    check_complete : (a : Answer) → CheckCause store w out a → Is a (check_answer files w)
+    check_complete a (inl (h, nothing)) = unchecked a h
+    check_complete a (inr (p, i, im, v, fs, is, j)) =
+        is_also a (verdict_answer v) (check_answer files w)
+        (sym (program w.program p after_checked_program fs.program ∙ image w.other im (after_checked_image p) fs.has_image ∙ input w.input i (after_checked_input p im) fs.input
+        ∙ verdict_tested (start_from p i) im fs.has_image.1.is_image w.budget v is))
+        (judged im v a j)
+
   pub complete : (left : Option Files) (command : Option Command) (a : Answer) → Cause store left command out a → (a ≡ answer_of files command) ⊎ (a ≡ Memory)
   complete left None a h = inl h.0
   complete left (Some (Run r)) a h = run_complete r left a h
   complete left (Some (Show name)) a h = show_complete name a h.0
   complete left (Some (Replay r)) a h = replay_complete r a h.0
+  complete left (Some (Profile w)) a h = profile_complete w left a h.0
+  complete left (Some (Distill d)) a h = distill_complete d left a h.0
+  complete left (Some (Check w)) a h = check_complete w a h.0

@@ -5,7 +5,7 @@ use Rattle.outside.specs.Answers.{Gains}
 use Rattle.cells.specs.Run.{State, iterate}
 use Rattle.rv_run.specs.Calls.{step}
 use Rattle.mssp_tool.specs.declared.answer.Answer.{Answer}
-use Rattle.mssp_tool.specs.declared.answer.Answer.TheVariants.{Usage, Absent, StoreFault, SinkFault, Memory, TooLong, Refused, Done, Ran, Budget}
+use Rattle.mssp_tool.specs.declared.answer.Answer.TheVariants.{Usage, Absent, StoreFault, SinkFault, Memory, TooLong, Refused, Done, Ran, Budget, Broken}
 use Rattle.report.proofs.Gained.{part_before}
 use Rattle.mssp_tool.specs.Driven.{Driven, Stops, state_after, stopped_at, stands}
 use Rattle.mssp_tool.specs.Told.{Puts, Got}
@@ -45,6 +45,7 @@ module _ (s t : State) (k budget : ℕ) (is : t ≡ iterate step s k) (within : 
         (omega (arith, l, rose), part_within told mid left t.env.output u.env.output more.0 put more.1 p g (state_after budget s).env.output rest.0 rest.1 part)
     stopped_there left before mid_faults now Memory l same = subst (λ d. (n : ℕ) × Gains told d (take n (state_after budget s).env.output)) (sym same) no_more
     stopped_there left before mid_faults now Usage l h = absurd h
+    stopped_there left before mid_faults now Broken l h = absurd h
     stopped_there left before mid_faults now (Absent x) l h = absurd h
     stopped_there left before mid_faults now (StoreFault x) l h = absurd h
     stopped_there left before mid_faults now (TooLong x) l h = absurd h

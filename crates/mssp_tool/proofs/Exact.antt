@@ -13,7 +13,7 @@ use Rattle.schedules.specs.Schedule.{after}
 use Rattle.schedules.specs.Laws.{StopsAt}
 use Rattle.command_line.specs.Command.{RunCommand}
 use Rattle.mssp_tool.specs.declared.answer.Answer.{Answer}
-use Rattle.mssp_tool.specs.declared.answer.Answer.TheVariants.{Usage, Absent, StoreFault, SinkFault, Memory, TooLong, Refused, Done, Ran, Budget}
+use Rattle.mssp_tool.specs.declared.answer.Answer.TheVariants.{Usage, Absent, StoreFault, SinkFault, Memory, TooLong, Refused, Done, Ran, Budget, Broken}
 use Rattle.mssp_tool.specs.Told.{Reads, Puts, Got}
 use Rattle.mssp_tool.specs.Driven.{state_after, stopped_at, stands}
 use Rattle.mssp_tool.specs.Speculated.{schedule_of, events_of, IsStop}
@@ -66,7 +66,7 @@ module _ (start : State) (image : Distilled) (slaves : ℕ) (event : ℕ → Eve
         (m.position, far, stop.near, subst (λ (s : State). Got out s.env.output) stop.sequential.is_seq got)
 
 module _ (store : Reads) (left : Option Files) (r : RunCommand) (out : Puts) where
-  unready_ran : (pc : ℕ) (end : End) → Unready store r (Ran pc end) → ⊥
+  pub unready_ran : (pc : ℕ) (end : End) → Unready store r (Ran pc end) → ⊥
   unready_ran pc end (inl (inl h)) = h
   unready_ran pc end (inl (inr (p, e, h, refused, is))) = cc
   unready_ran pc end (inr (inl (p, h, (name, named, inl x)))) = x
@@ -74,7 +74,7 @@ module _ (store : Reads) (left : Option Files) (r : RunCommand) (out : Puts) whe
   unready_ran pc end (inr (inr (inl (p, im, h, hi, (name, named, x))))) = x
   unready_ran pc end (inr (inr (inr is))) = cc
 
-  unready_budget : Unready store r Budget → ⊥
+  pub unready_budget : Unready store r Budget → ⊥
   unready_budget (inl (inl h)) = h
   unready_budget (inl (inr (p, e, h, refused, is))) = cc
   unready_budget (inr (inl (p, h, (name, named, inl x)))) = x
@@ -107,6 +107,7 @@ module _ (store : Reads) (left : Option Files) (r : RunCommand) (out : Puts) whe
         let event = events_of (schedule_of r.image) r.slaves in
         used_up (is ∙ stands_so start im r.slaves event r.budget k stop.sequential) (past start im r.slaves event r.budget k name store left out stop is got)
     runs report Usage h done = absurd done
+    runs report Broken h done = absurd done
     runs report (Absent s) h done = absurd done
     runs report (StoreFault s) h done = absurd done
     runs report SinkFault h done = absurd done
@@ -119,6 +120,7 @@ module _ (store : Reads) (left : Option Files) (r : RunCommand) (out : Puts) whe
   runs_as_alone (Ran pc end) (inl h) done = absurd (unready_ran pc end h.0)
   runs_as_alone Budget (inl h) done = absurd (unready_budget h.0)
   runs_as_alone Usage (inl h) done = absurd done
+  runs_as_alone Broken (inl h) done = absurd done
   runs_as_alone (Absent s) (inl h) done = absurd done
   runs_as_alone (StoreFault s) (inl h) done = absurd done
   runs_as_alone SinkFault (inl h) done = absurd done

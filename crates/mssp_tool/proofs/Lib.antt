@@ -9,3 +9,8 @@ pub mod Replays
 pub mod Stops
 pub mod Advances
 pub mod Reports
+pub mod Unsquashed
+pub mod Saves
+pub mod Profiles
+pub mod Distillation
+pub mod Checks

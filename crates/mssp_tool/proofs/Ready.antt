@@ -9,7 +9,7 @@ use Rattle.mssp_tool.specs.declared.answer.Refusal.TheVariants as refused
 use Rattle.mssp_tool.specs.declared.answer.Source.{Source}
 use Rattle.mssp_tool.specs.declared.answer.Refusal.{Refusal}
 use Rattle.mssp_tool.specs.declared.answer.Answer.{Answer}
-use Rattle.mssp_tool.specs.declared.answer.Answer.TheVariants.{Usage, Absent, StoreFault, SinkFault, Memory, TooLong, Refused, Done, Ran, Budget}
+use Rattle.mssp_tool.specs.declared.answer.Answer.TheVariants.{Usage, Absent, StoreFault, SinkFault, Memory, TooLong, Refused, Done, Ran, Budget, Broken}
 use Rattle.mssp_tool.specs.Files.{NotRead, NotAccepted, IsReadFrom, IsNamedImage, NoNamedImage, NoInput, IsInput, image_limit, input_limit}
 use Rattle.mssp_tool.specs.declared.answer.Source.TheVariants as source
 
@@ -27,6 +27,7 @@ not_read_within told told' before mid now name limit s (TooLong t) e l (same, in
 not_read_within told told' before mid now name limit s (StoreFault t) e l (same, x) = (same, rose_within before mid now l x)
 not_read_within told told' before mid now name limit s Memory e l x = tt
 not_read_within told told' before mid now name limit s Usage e l x = absurd x
+not_read_within told told' before mid now name limit s Broken e l x = absurd x
 not_read_within told told' before mid now name limit s SinkFault e l x = absurd x
 not_read_within told told' before mid now name limit s (Refused r) e l x = absurd x
 not_read_within told told' before mid now name limit s Done e l x = absurd x

@@ -18,7 +18,7 @@ use Rattle.schedules.specs.Schedule.{after}
 use Rattle.mssp_tool.specs.declared.speculating.Schedule.{Schedule}
 use Rattle.report.proofs.Gained.{part_before}
 use Rattle.mssp_tool.specs.declared.answer.Answer.{Answer}
-use Rattle.mssp_tool.specs.declared.answer.Answer.TheVariants.{Usage, Absent, StoreFault, SinkFault, Memory, TooLong, Refused, Done, Ran, Budget}
+use Rattle.mssp_tool.specs.declared.answer.Answer.TheVariants.{Usage, Absent, StoreFault, SinkFault, Memory, TooLong, Refused, Done, Ran, Budget, Broken}
 use Rattle.mssp_tool.specs.Told.{Reads, Puts, Got, OnlyChanges, Written}
 use Rattle.mssp_tool.specs.Speculated.{schedule_of, events_of, IsStop, Unwritten, Stopped, Speculated}
 use Rattle.mssp_tool.specs.Run.{AreRunFiles, Reported, RunFrom, RunCause, start_from, world_from}
@@ -30,6 +30,7 @@ unwritten m name store left out (StoreFault s) got h = (got, h)
 unwritten m name store left out Memory got h =
     (part_before out.told out.left m.committed.env.output [] m.committed.env.output (sym (append-nil m.committed.env.output)) got, h)
 unwritten m name store left out Usage got h = absurd h
+unwritten m name store left out Broken got h = absurd h
 unwritten m name store left out (Absent s) got h = absurd h
 unwritten m name store left out SinkFault got h = absurd h
 unwritten m name store left out (TooLong s) got h = absurd h
@@ -63,7 +64,7 @@ others_stay (Some files) left name bytes e = (
 )
 
 -- no file changed
-same_stay : (told left : Option Files) (name : List ℕ) → left ≡ told → OthersStay told left name
+pub same_stay : (told left : Option Files) (name : List ℕ) → left ≡ told → OthersStay told left name
 same_stay None left name e = e
 same_stay (Some files) left name e = (files, e, λ other apart. refl)
 
@@ -79,6 +80,7 @@ stopped_changes m name store left out (StoreFault s) (got, (same, fails, others)
 stopped_changes m name store left out SinkFault h = same_stay store.told left name h.1
 stopped_changes m name store left out Memory h = same_stay store.told left name h.1
 stopped_changes m name store left out Usage h = same_stay store.told left name h.1
+stopped_changes m name store left out Broken h = same_stay store.told left name h.1
 stopped_changes m name store left out (Absent s) h = same_stay store.told left name h.1
 stopped_changes m name store left out (TooLong s) h = same_stay store.told left name h.1
 stopped_changes m name store left out (Refused e) h = same_stay store.told left name h.1
@@ -95,6 +97,7 @@ within_call m name told left before mid now out Budget l h = h
 within_call m name told left before mid now out SinkFault l h = h
 within_call m name told left before mid now out Memory l h = h
 within_call m name told left before mid now out Usage l h = h
+within_call m name told left before mid now out Broken l h = h
 within_call m name told left before mid now out (Absent s) l h = h
 within_call m name told left before mid now out (TooLong s) l h = h
 within_call m name told left before mid now out (Refused e) l h = h

@@ -2,7 +2,7 @@
 use Rattle.std.specs.Prelude.{ℕ, ◌%◌, List, [], ◌∷◌, ◌++◌, codes, decimal, Option, Some, unwrap_or}
 use Rattle.cells.specs.declared.End.{End}
 use Rattle.cells.specs.declared.End.TheVariants.{Exit}
-use Rattle.command_line.specs.Command.{Command, Run, Show, Replay}
+use Rattle.command_line.specs.Command.{Command, Run, Show, Replay, Profile, Distill, Check}
 use Rattle.dist_image.specs.declared.error.ImageErr.{ImageErr}
 use Rattle.dist_image.specs.declared.error.ImageErr.TheVariants as image
 use Rattle.dist_image.specs.declared.error.Table.{Table}
@@ -11,13 +11,15 @@ use Rattle.elf_reader.specs.declared.error.ElfErr.{ElfErr}
 use Rattle.elf_reader.specs.declared.error.ElfErr.TheVariants as elf
 use Rattle.event_list.specs.declared.error.EventErr.{EventErr}
 use Rattle.event_list.specs.declared.error.EventErr.TheVariants as events
+use Rattle.profile_data.specs.declared.error.ProfileErr.{ProfileErr}
+use Rattle.profile_data.specs.declared.error.ProfileErr.TheVariants as profile
 use Rattle.report.specs.Text.{hex_word, line, end_words}
 use Rattle.mssp_tool.specs.declared.answer.Source.{Source}
 use Rattle.mssp_tool.specs.declared.answer.Source.TheVariants as source
 use Rattle.mssp_tool.specs.declared.answer.Refusal.{Refusal}
 use Rattle.mssp_tool.specs.declared.answer.Refusal.TheVariants as refusal
 use Rattle.mssp_tool.specs.declared.answer.Answer.{Answer}
-use Rattle.mssp_tool.specs.declared.answer.Answer.TheVariants.{Usage, Absent, StoreFault, SinkFault, Memory, TooLong, Refused, Done, Ran, Budget}
+use Rattle.mssp_tool.specs.declared.answer.Answer.TheVariants.{Usage, Absent, StoreFault, SinkFault, Memory, TooLong, Refused, Done, Ran, Budget, Broken}
 
 -- how a run ended: by an exit, or otherwise
 abbrev pub end_status : End → ℕ
@@ -28,6 +30,9 @@ abbrev pub refusal_status : Refusal → ℕ
 refusal_status (refusal.Program e) = 116
 refusal_status (refusal.Image e) = 117
 refusal_status (refusal.Events e) = 119
+refusal_status (refusal.Profile e) = 118
+refusal_status refusal.Wide = 118
+refusal_status refusal.Empty = 118
 
 abbrev pub status_of : Answer → ℕ
 status_of Usage = 110
@@ -40,6 +45,7 @@ status_of (Refused r) = refusal_status r
 status_of Done = 0
 status_of (Ran pc end) = end_status end
 status_of Budget = 120
+status_of Broken = 1
 
 -- the name that a command has for a file, or nothing where it has none
 abbrev pub name_of : Option Command → Source → List ℕ
@@ -52,6 +58,15 @@ name_of (Some (Replay r)) source.Program = r.program
 name_of (Some (Replay r)) source.Image = r.image
 name_of (Some (Replay r)) source.Events = r.events
 name_of (Some (Replay r)) source.Input = unwrap_or r.input []
+name_of (Some (Profile w)) source.Program = w.program
+name_of (Some (Profile w)) source.Input = unwrap_or w.input []
+name_of (Some (Profile w)) source.Output = w.other
+name_of (Some (Distill d)) source.Program = d.program
+name_of (Some (Distill d)) source.Profile = d.profile
+name_of (Some (Distill d)) source.Output = d.output
+name_of (Some (Check w)) source.Program = w.program
+name_of (Some (Check w)) source.Image = w.other
+name_of (Some (Check w)) source.Input = unwrap_or w.input []
 name_of _ _ = []
 
 -- what a program is refused for
@@ -99,11 +114,29 @@ event_words (events.Line number) = codes "line" ∷ decimal number ∷ []
 event_words (events.TooMany number) = codes "too many" ∷ decimal number ∷ []
 event_words events.Memory = codes "memory" ∷ []
 
--- what kind of file is refused, its name, and what it is refused for
+-- what a profile is refused for
+abbrev pub profile_words : ProfileErr → List (List ℕ)
+profile_words profile.Short = codes "short" ∷ []
+profile_words profile.Magic = codes "magic" ∷ []
+profile_words profile.Version = codes "version" ∷ []
+profile_words profile.Mark = codes "mark" ∷ []
+profile_words profile.TooMany = codes "too many" ∷ []
+profile_words (profile.Kind i) = codes "kind" ∷ decimal i ∷ []
+profile_words (profile.Range i) = codes "range" ∷ decimal i ∷ []
+profile_words (profile.Twice i) = codes "twice" ∷ decimal i ∷ []
+profile_words (profile.Order i) = codes "order" ∷ decimal i ∷ []
+profile_words profile.Sum = codes "sum" ∷ []
+profile_words profile.Long = codes "long" ∷ []
+profile_words profile.Memory = codes "memory" ∷ []
+
+-- what kind of file is refused, its name, and what it is refused for; a run whose profile is too wide goes by the name of its program
 abbrev pub refusal_words : (Source → List ℕ) → Refusal → List (List ℕ)
 refusal_words name (refusal.Program e) = codes "program" ∷ (name source.Program ++ codes ":") ∷ elf_words e
 refusal_words name (refusal.Image e) = codes "image" ∷ (name source.Image ++ codes ":") ∷ image_words e
 refusal_words name (refusal.Events e) = codes "events" ∷ (name source.Events ++ codes ":") ∷ event_words e
+refusal_words name (refusal.Profile e) = codes "profile" ∷ (name source.Profile ++ codes ":") ∷ profile_words e
+refusal_words name refusal.Wide = codes "profile" ∷ (name source.Program ++ codes ":") ∷ codes "wide" ∷ []
+refusal_words name refusal.Empty = codes "profile" ∷ (name source.Profile ++ codes ":") ∷ codes "empty" ∷ []
 
 abbrev pub fault_line : List (List ℕ) → List ℕ
 fault_line words = line (codes "mssp:") words
@@ -116,7 +149,7 @@ abbrev pub end_line : ℕ → End → List ℕ
 end_line pc (Exit code) = []
 end_line pc end = trap_line pc end
 
--- the line that tells an answer, by the names of the command's files; what is done has none
+-- the line that tells an answer, by the names of the command's files; what is done has none, and neither has a check
 abbrev pub line_of : (Source → List ℕ) → Answer → List ℕ
 line_of name Usage = fault_line (codes "usage" ∷ [])
 line_of name (Absent s) = fault_line (codes "absent" ∷ name s ∷ [])
@@ -126,5 +159,6 @@ line_of name Memory = fault_line (codes "memory" ∷ [])
 line_of name (TooLong s) = fault_line (codes "too long" ∷ name s ∷ [])
 line_of name (Refused r) = fault_line (refusal_words name r)
 line_of name Done = []
+line_of name Broken = []
 line_of name (Ran pc end) = end_line pc end
 line_of name Budget = fault_line (codes "budget" ∷ [])

@@ -1,10 +1,10 @@
--- The files that commands read, as the store tells them, and what a command comes to where it lacks one.
+-- The files that commands read and write, as the store tells them, and what a command comes to where it lacks one or one is not written.
 use Rattle.std.specs.Prelude.{◌≡◌, ℕ, ◌≤◌, ◌⊎◌, nat_lt, if◌then◌else◌, List, [], length, Option, Some, None, Result, Ok, Err}
 use Rattle.std.specs.FinMap as finite
-use Rattle.outside.specs.Answers.{Lacks, HasLonger}
+use Rattle.outside.specs.Answers.{Lacks, HasLonger, OthersStay}
 use Rattle.outside.specs.Files.{Files}
 use Rattle.dist_image.specs.declared.error.ImageErr.{ImageErr}
-use Rattle.dist_image.specs.Image.{Distilled, nothing_known}
+use Rattle.dist_image.specs.Image.{Distilled, IsImage, nothing_known}
 use Rattle.dist_image.specs.Reading.{image_from}
 use Rattle.elf_reader.specs.declared.error.ElfErr.{ElfErr}
 use Rattle.elf_reader.specs.Executable.{Executable}
@@ -13,13 +13,16 @@ use Rattle.elf_reader.specs.Accepted.{program_of}
 use Rattle.speculation.specs.declared.Event.{Event}
 use Rattle.event_list.specs.declared.error.EventErr.{EventErr}
 use Rattle.event_list.specs.Reading.{list_in}
+use Rattle.profile_data.specs.declared.error.ProfileErr.{ProfileErr}
+use Rattle.profile_data.specs.Profile.{Profiled, IsProfile}
+use Rattle.profile_data.specs.Reading.{profile_from}
 use Rattle.mssp_tool.specs.declared.answer.Source.{Source}
 use Rattle.mssp_tool.specs.declared.answer.Source.TheVariants as source
 use Rattle.mssp_tool.specs.declared.answer.Refusal.{Refusal}
 use Rattle.mssp_tool.specs.declared.answer.Refusal.TheVariants as refused
 use Rattle.mssp_tool.specs.declared.answer.Answer.{Answer}
-use Rattle.mssp_tool.specs.declared.answer.Answer.TheVariants.{Absent, StoreFault, Memory, TooLong, Refused}
-use Rattle.mssp_tool.specs.Told.{Reads, Fails}
+use Rattle.mssp_tool.specs.declared.answer.Answer.TheVariants.{Absent, StoreFault, Memory, TooLong, Refused, Done}
+use Rattle.mssp_tool.specs.Told.{Reads, Fails, Written}
 
 abbrev pub program_limit : ℕ
 program_limit = 16777216
@@ -29,6 +32,9 @@ image_limit = 67108864
 
 abbrev pub events_limit : ℕ
 events_limit = 67108864
+
+abbrev pub profile_limit : ℕ
+profile_limit = 33554432
 
 abbrev pub input_limit : ℕ
 input_limit = 67108864
@@ -88,6 +94,7 @@ of_program files name k = of_file (finite.get files name) program_limit source.P
 pub record IsImageOf (told : Option Files) (name bytes : List ℕ) (image : Distilled) : Type 0 where
   pub read : IsReadFrom told name image_limit bytes
   pub accepted : image_from bytes ≡ Ok image
+  pub is_image : IsImage image
 
 abbrev pub HasImage : Option Files → List ℕ → Distilled → Type 0
 HasImage told name image = (bytes : List ℕ) × IsImageOf told name bytes image
@@ -129,6 +136,24 @@ NoEvents store name a = NotAccepted store name events_limit source.Events (λ by
 abbrev pub of_events : Files → List ℕ → (List (ℕ × Event) → Answer) → Answer
 of_events files name k = of_file (finite.get files name) events_limit source.Events (λ bytes. of_reading (list_in bytes) refused.Events k)
 
+-- ---- the profile
+
+-- the store tells these bytes as the profile of that name, and they are this one
+pub record IsProfileFile (told : Option Files) (name bytes : List ℕ) (f : Profiled) : Type 0 where
+  pub read : IsReadFrom told name profile_limit bytes
+  pub accepted : profile_from bytes ≡ Ok f
+  pub is_profile : IsProfile f
+
+abbrev pub HasProfile : Option Files → List ℕ → Profiled → Type 0
+HasProfile told name f = (bytes : List ℕ) × IsProfileFile told name bytes f
+
+-- the profile is not read, or refused
+abbrev pub NoProfile : Reads → List ℕ → Answer → Type 0
+NoProfile store name a = NotAccepted store name profile_limit source.Profile (λ bytes (e : ProfileErr). profile_from bytes ≡ Err e) refused.Profile a
+
+abbrev pub of_profile : Files → List ℕ → (Profiled → Answer) → Answer
+of_profile files name k = of_file (finite.get files name) profile_limit source.Profile (λ bytes. of_reading (profile_from bytes) refused.Profile k)
+
 -- ---- the input, which is empty where none is named
 
 abbrev pub IsInput : Option Files → Option (List ℕ) → List ℕ → Type 0
@@ -142,3 +167,16 @@ NoInput store named a = (name : List ℕ) × (named ≡ Some name) × NotRead st
 abbrev pub of_input : Files → Option (List ℕ) → (List ℕ → Answer) → Answer
 of_input files None k = k []
 of_input files (Some name) k = of_file (finite.get files name) input_limit source.Input k
+
+-- ---- the file that a command writes
+
+-- it was not written: the store failed, and that name has anything or nothing; or there was no memory, and no file has changed
+abbrev pub NotWritten : Source → Reads → Option Files → List ℕ → Answer → Type 0
+NotWritten s store left name (StoreFault t) = (t ≡ s) × Fails store × OthersStay store.told left name
+NotWritten s store left name Memory = left ≡ store.told
+NotWritten s store left name _ = ⊥
+
+-- the command's bytes were written, and it is done; or they were not
+abbrev pub Saved : Reads → Option Files → List ℕ → List ℕ → Answer → Type 0
+Saved store left name bytes Done = Written store.told left name bytes
+Saved store left name bytes a = NotWritten source.Output store left name a

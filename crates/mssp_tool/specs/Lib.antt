@@ -6,4 +6,8 @@ pub mod Speculated
 pub mod Run
 pub mod Show
 pub mod Replay
+pub mod Profile
+pub mod Distill
+pub mod Check
+pub mod Unsquashed
 pub mod Top

@@ -9,6 +9,7 @@ use Rattle.speculation.specs.World.{World}
 use Rattle.dist_image.specs.Image.{Distilled}
 use Rattle.image_world.specs.World.{world}
 use Rattle.elf_reader.specs.Accepted.{program_of}
+use Rattle.elf_reader.specs.Executable.{Executable}
 use Rattle.seq_machine.specs.Parts.{start_of}
 use Rattle.mssp_tool.specs.declared.answer.Answer.{Answer}
 use Rattle.mssp_tool.specs.declared.answer.Answer.TheVariants.{Memory, Ran, Budget}
@@ -37,6 +38,10 @@ start_from p i = start_of (program_of p) i
 
 abbrev pub world_from : List ℕ → List ℕ → Distilled → ℕ → World
 world_from p i image slaves = world (start_from p i) image slaves
+
+-- a state is the start of the program's run, with the input that it holds
+abbrev pub Begins : Executable → State → Type 0
+Begins program s = s ≡ start_of program s.env.input
 
 -- the files are read and accepted, and this is the start of their run, and their image
 abbrev pub IsReady : Option Files → RunCommand → State → Distilled → Type 0

@@ -1,6 +1,5 @@
 -- What a run comes to where a speculative machine runs and a report is asked for.
 use Rattle.std.specs.Prelude.{◌≡◌, ℕ, ◌+◌, ◌<◌, List, Option, Some, None}
-use Rattle.outside.specs.Answers.{OthersStay}
 use Rattle.outside.specs.Files.{Files}
 use Rattle.speculation.specs.declared.Event.{Event}
 use Rattle.speculation.specs.World.{World}
@@ -10,10 +9,11 @@ use Rattle.schedules.specs.Laws.{StopsAt}
 use Rattle.report.specs.Events.{summary_text}
 use Rattle.mssp_tool.specs.declared.answer.Source.TheVariants as source
 use Rattle.mssp_tool.specs.declared.answer.Answer.{Answer}
-use Rattle.mssp_tool.specs.declared.answer.Answer.TheVariants.{StoreFault, Memory, Ran, Budget}
+use Rattle.mssp_tool.specs.declared.answer.Answer.TheVariants.{StoreFault, Ran, Budget}
 use Rattle.mssp_tool.specs.declared.speculating.Schedule.{Schedule}
 use Rattle.mssp_tool.specs.declared.speculating.Schedule.TheVariants.{Rounds, Alone}
-use Rattle.mssp_tool.specs.Told.{Reads, Puts, Fails, Got, Written}
+use Rattle.mssp_tool.specs.Told.{Reads, Puts, Got, Written}
+use Rattle.mssp_tool.specs.Files.{NotWritten}
 use Rattle.mssp_tool.specs.Driven.{stands, CutOff}
 
 -- rounds where an image is named, and else serial steps alone
@@ -34,11 +34,9 @@ most Alone w far = far
 abbrev pub Completed : Model → List ℕ → Reads → Option Files → Puts → Answer → Type 0
 Completed m name store left out a = Got out m.committed.env.output × Written store.told left name (summary_text m) × (a ≡ stands m.committed)
 
--- the report was not written: the store failed, and that name has anything or nothing; or there was no memory, and no file has changed
+-- the report was not written
 abbrev pub Unwritten : Reads → Option Files → List ℕ → Answer → Type 0
-Unwritten store left name (StoreFault s) = (s ≡ source.Report) × Fails store × OthersStay store.told left name
-Unwritten store left name Memory = left ≡ store.told
-Unwritten store left name _ = ⊥
+Unwritten store left name a = NotWritten source.Report store left name a
 
 -- the machine stopped so: it completed; or all was put, and the report could not be written; or it was cut off, and no file has changed
 abbrev pub Stopped : Model → List ℕ → Reads → Option Files → Puts → Answer → Type 0

@@ -2,32 +2,42 @@
 ghost use Rattle.std.specs.Prelude.{◌≡◌, [], ◌∷◌, ◌++◌, decimal, option_map, IfOk, OnOk};
 ghost use Rattle.command_line.specs.Command.{shown};
 ghost use Rattle.report.specs.Text.{spaced};
-ghost use Rattle.mssp_tool.specs.Answer.{status_of, line_of, fault_line, trap_line, name_of, elf_words, table_word, image_words, event_words, refusal_words};
+ghost use Rattle.mssp_tool.specs.Answer.{status_of, line_of, fault_line, trap_line, name_of, elf_words, table_word, image_words, event_words, profile_words, refusal_words};
 
 use cells::End;
 use command_line::Command;
 use dist_image::{ImageErr, Table};
 use elf_reader::ElfErr;
 use event_list::EventErr;
+use profile_data::ProfileErr;
 use report::{Word, push_end, push_line, push_words};
 use std::alloc::{AllocError, Global};
 
-/// Which of the files that a command reads.
+/// Which of the files that a command reads or writes.
 #[derive(Clone, Copy, Debug, PartialEq, Eq)]
 pub enum Source {
     Program,
     Image,
     Events,
+    Profile,
     Input,
+    /// The summary that a run writes.
     Report,
+    /// The profile or the image that a command writes.
+    Output,
 }
 
-/// Why a file is refused.
+/// Why a file is refused, or gives nothing to write.
 #[derive(Clone, Copy, Debug, PartialEq, Eq)]
 pub enum Refusal {
     Program(ElfErr),
     Image(ImageErr),
     Events(EventErr),
+    Profile(ProfileErr),
+    /// The program's run has more addresses or targets than a profile can hold.
+    Wide,
+    /// The profile has nothing that an image could be made of.
+    Empty,
 }
 
 /// What a command came to.
@@ -53,6 +63,8 @@ pub enum Answer {
     Ran { pc: u32, end: End },
     /// The run used up its steps.
     Budget,
+    /// The run breaks what an image assumes of it, and the line that says where is put.
+    Broken,
 }
 
 /// The status that the answer is told by.
@@ -69,6 +81,7 @@ pub fn status(answer: Answer) -> u8
         Answer::Refused(Refusal::Program(_)) => 116,
         Answer::Refused(Refusal::Image(_)) => 117,
         Answer::Refused(Refusal::Events(_)) => 119,
+        Answer::Refused(Refusal::Profile(_) | Refusal::Wide | Refusal::Empty) => 118,
         Answer::Done => 0,
         Answer::Ran {
             end: End::Exit(code),
@@ -76,6 +89,7 @@ pub fn status(answer: Answer) -> u8
         } => (code % 256) as u8,
         Answer::Ran { .. } => 121,
         Answer::Budget => 120,
+        Answer::Broken => 1,
     }
 }
 
@@ -93,6 +107,15 @@ fn name<'a>(command: Option<Command<'a>>, source: Source) -> &'a str
         (Some(Command::Replay(replay)), Source::Image) => replay.image,
         (Some(Command::Replay(replay)), Source::Events) => replay.events,
         (Some(Command::Replay(replay)), Source::Input) => replay.input.unwrap_or(""),
+        (Some(Command::Profile(walk)), Source::Program) => walk.program,
+        (Some(Command::Profile(walk)), Source::Input) => walk.input.unwrap_or(""),
+        (Some(Command::Profile(walk)), Source::Output) => walk.other,
+        (Some(Command::Distill(distill)), Source::Program) => distill.program,
+        (Some(Command::Distill(distill)), Source::Profile) => distill.profile,
+        (Some(Command::Distill(distill)), Source::Output) => distill.output,
+        (Some(Command::Check(walk)), Source::Program) => walk.program,
+        (Some(Command::Check(walk)), Source::Image) => walk.other,
+        (Some(Command::Check(walk)), Source::Input) => walk.input.unwrap_or(""),
         _ => "",
     }
 }
@@ -175,6 +198,32 @@ fn push_events(out: &mut Vec<u8>, refusal: EventErr) -> Result<(), AllocError>
     }
 }
 
+// Puts what is wrong with a row.
+fn push_row(out: &mut Vec<u8>, what: &str, i: u32) -> Result<(), AllocError>
+    ensures { OnOk result (out.new.items ≡ out.old.items ++ spaced (what.now ∷ decimal i ∷ [])) }
+{
+    push_words(out, &[Word::Text(what), Word::Number(u64::from(i))])
+}
+
+fn push_profile(out: &mut Vec<u8>, refusal: ProfileErr) -> Result<(), AllocError>
+    ensures { OnOk result (out.new.items ≡ out.old.items ++ spaced (profile_words refusal)) }
+{
+    match refusal {
+        ProfileErr::Short => push_words(out, &[Word::Text("short")]),
+        ProfileErr::Magic => push_words(out, &[Word::Text("magic")]),
+        ProfileErr::Version => push_words(out, &[Word::Text("version")]),
+        ProfileErr::Mark => push_words(out, &[Word::Text("mark")]),
+        ProfileErr::TooMany => push_words(out, &[Word::Text("too many")]),
+        ProfileErr::Kind(i) => push_row(out, "kind", i),
+        ProfileErr::Range(i) => push_row(out, "range", i),
+        ProfileErr::Twice(i) => push_row(out, "twice", i),
+        ProfileErr::Order(i) => push_row(out, "order", i),
+        ProfileErr::Sum => push_words(out, &[Word::Text("sum")]),
+        ProfileErr::Long => push_words(out, &[Word::Text("long")]),
+        ProfileErr::Memory => push_words(out, &[Word::Text("memory")]),
+    }
+}
+
 fn push_refusal(
     out: &mut Vec<u8>,
     refusal: Refusal,
@@ -198,6 +247,21 @@ fn push_refusal(
             let events = name(command, Source::Events);
             push_words(out, &[Word::Text("events"), Word::Label(events)])?;
             push_events(out, what)
+        }
+        Refusal::Profile(what) => {
+            let profile = name(command, Source::Profile);
+            push_words(out, &[Word::Text("profile"), Word::Label(profile)])?;
+            push_profile(out, what)
+        }
+        Refusal::Wide => {
+            let program = name(command, Source::Program);
+            let what = Word::Text("wide");
+            push_words(out, &[Word::Text("profile"), Word::Label(program), what])
+        }
+        Refusal::Empty => {
+            let profile = name(command, Source::Profile);
+            let what = Word::Text("empty");
+            push_words(out, &[Word::Text("profile"), Word::Label(profile), what])
         }
     }
 }
@@ -247,7 +311,7 @@ fn push_answer(
         Answer::Memory => push_line(out, "mssp:", &[Word::Text("memory")]),
         Answer::TooLong(source) => push_fault(out, "too long", name(command, source)),
         Answer::Refused(refusal) => push_refused(out, refusal, command),
-        Answer::Done => Ok(()),
+        Answer::Done | Answer::Broken => Ok(()),
         Answer::Ran {
             end: End::Exit(_),
             ..

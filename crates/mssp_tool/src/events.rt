@@ -1,4 +1,4 @@
-//! The events of a list, given to an engine one by one, and what each of them did.
+//! The events of a list, given to a pair one by one, and what each of them did.
 ghost use Rattle.std.specs.Prelude.{◌≡◌, ◌+◌, ◌^◌, ◌<◌, [], ◌∷◌, length, replicate, OnOk};
 ghost use Rattle.speculation.specs.Engine.{run, fresh};
 ghost use Rattle.event_list.specs.Reading.{written_out, AreEvents};
@@ -9,6 +9,7 @@ ghost use Rattle.mssp_tool.specs.Replay.{lines_of, replay_bytes};
 use engine::Engine;
 use event_list::Event;
 use memory::Memory;
+use nosquash::Pair;
 use outside::{Sink, SinkErr};
 use report::{put_effect, put_summary};
 use std::alloc::Global;
@@ -17,17 +18,17 @@ use std::alloc::Global;
 fn put_event<O: Sink, M: Memory>(
     alloc: Global,
     out: &mut O,
-    engine: &mut Engine<M>,
+    pair: &mut Pair<M>,
     e: Event,
 ) -> Result<(), SinkErr>
-    requires { (model_of M.at engine.old).counts.events + 1 < 2 ^ 64 }
+    requires { (model_of M.at pair.old.engine).counts.events + 1 < 2 ^ 64 }
     ensures put { PutsText (O.told out.old) (O.told out.new) (O.faults out.old) (O.faults out.new)
-        (lines_of (world_of M.at engine.old) (e ∷ []) (model_of M.at engine.old)) result }
-    ensures model { OnOk result (model_of M.at engine.new
-        ≡ run (world_of M.at engine.old) (e ∷ []) (model_of M.at engine.old)) }
-    ensures world { world_of M.at engine.new ≡ world_of M.at engine.old }
+        (lines_of (world_of M.at pair.old.engine) (e ∷ []) (model_of M.at pair.old.engine)) result }
+    ensures model { OnOk result (model_of M.at pair.new.engine
+        ≡ run (world_of M.at pair.old.engine) (e ∷ []) (model_of M.at pair.old.engine)) }
+    ensures world { world_of M.at pair.new.engine ≡ world_of M.at pair.old.engine }
 {
-    match engine.event(alloc, e) {
+    match pair.event(alloc, e) {
         Ok(effect) => put_effect(alloc, out, &effect),
         Err(_) => Err(SinkErr::Memory),
     }
@@ -37,19 +38,19 @@ fn put_event<O: Sink, M: Memory>(
 fn put_repeated<O: Sink, M: Memory>(
     alloc: Global,
     out: &mut O,
-    engine: &mut Engine<M>,
+    pair: &mut Pair<M>,
     e: Event,
     count: u32,
 ) -> Result<(), SinkErr>
-    requires { (model_of M.at engine.old).counts.events + count < 2 ^ 64 }
+    requires { (model_of M.at pair.old.engine).counts.events + count < 2 ^ 64 }
     ensures put { PutsText (O.told out.old) (O.told out.new) (O.faults out.old) (O.faults out.new)
-        (lines_of (world_of M.at engine.old) (replicate count e) (model_of M.at engine.old)) result }
-    ensures model { OnOk result (model_of M.at engine.new
-        ≡ run (world_of M.at engine.old) (replicate count e) (model_of M.at engine.old)) }
-    ensures world { world_of M.at engine.new ≡ world_of M.at engine.old }
+        (lines_of (world_of M.at pair.old.engine) (replicate count e) (model_of M.at pair.old.engine)) result }
+    ensures model { OnOk result (model_of M.at pair.new.engine
+        ≡ run (world_of M.at pair.old.engine) (replicate count e) (model_of M.at pair.old.engine)) }
+    ensures world { world_of M.at pair.new.engine ≡ world_of M.at pair.old.engine }
 {
     for turn in 0..count {
-        put_event(alloc, out, engine, e)?;
+        put_event(alloc, out, pair, e)?;
     }
     Ok(())
 }
@@ -58,18 +59,18 @@ fn put_repeated<O: Sink, M: Memory>(
 fn put_listed<O: Sink, M: Memory>(
     alloc: Global,
     out: &mut O,
-    engine: &mut Engine<M>,
+    pair: &mut Pair<M>,
     list: &[(u32, Event)],
 ) -> Result<(), SinkErr>
-    requires { (model_of M.at engine.old).counts.events + length (written_out list.now) < 2 ^ 64 }
+    requires { (model_of M.at pair.old.engine).counts.events + length (written_out list.now) < 2 ^ 64 }
     ensures put { PutsText (O.told out.old) (O.told out.new) (O.faults out.old) (O.faults out.new)
-        (lines_of (world_of M.at engine.old) (written_out list.now) (model_of M.at engine.old)) result }
-    ensures model { OnOk result (model_of M.at engine.new
-        ≡ run (world_of M.at engine.old) (written_out list.now) (model_of M.at engine.old)) }
-    ensures world { world_of M.at engine.new ≡ world_of M.at engine.old }
+        (lines_of (world_of M.at pair.old.engine) (written_out list.now) (model_of M.at pair.old.engine)) result }
+    ensures model { OnOk result (model_of M.at pair.new.engine
+        ≡ run (world_of M.at pair.old.engine) (written_out list.now) (model_of M.at pair.old.engine)) }
+    ensures world { world_of M.at pair.new.engine ≡ world_of M.at pair.old.engine }
 {
     for (count, e) in list {
-        put_repeated(alloc, out, engine, *e, *count)?;
+        put_repeated(alloc, out, pair, *e, *count)?;
     }
     Ok(())
 }
@@ -86,20 +87,21 @@ fn put_output<O: Sink, M: Memory>(
     out.put(alloc, &engine.committed().out)
 }
 
-/// Gives the events of a list to an engine that has had none, and puts the line of what each of
+/// Gives the events of a list to a pair that has had none, and puts the line of what each of
 /// them did, then the lines that sum that up, and then the output of the committed machine.
 pub fn put_replay<O: Sink, M: Memory>(
     alloc: Global,
     out: &mut O,
-    engine: &mut Engine<M>,
+    pair: &mut Pair<M>,
     list: &[(u32, Event)],
 ) -> Result<(), SinkErr>
-    requires fresh { model_of M.at engine.old ≡ fresh (world_of M.at engine.old) }
+    requires fresh { model_of M.at pair.old.engine ≡ fresh (world_of M.at pair.old.engine) }
     requires list { AreEvents list.now }
     ensures { PutsText (O.told out.old) (O.told out.new) (O.faults out.old) (O.faults out.new)
-        (replay_bytes (world_of M.at engine.old) (written_out list.now)) result }
+        (replay_bytes (world_of M.at pair.old.engine) (written_out list.now)) result }
 {
-    put_listed(alloc, out, engine, list)?;
+    put_listed(alloc, out, pair, list)?;
+    let engine = pair.engine();
     put_summary(alloc, out, engine)?;
     put_output(alloc, out, engine)
 }

@@ -2,8 +2,12 @@
 #![tactic(auto)]
 
 mod answer;
+mod check;
+mod distill;
 mod driving;
 mod events;
+mod output;
+mod profile;
 mod reading;
 mod replay;
 mod run;

@@ -4,13 +4,14 @@ ghost use Rattle.dist_image.specs.Image.{IsImage};
 ghost use Rattle.elf_reader.specs.Executable.{IsProgram};
 ghost use Rattle.event_list.specs.Reading.{AreEvents};
 ghost use Rattle.mssp_tool.specs.Told.{Reads};
-ghost use Rattle.mssp_tool.specs.Files.{IsReadFrom, NotRead, HasProgram, NoProgram, HasImage, NoImage, IsNamedImage, NoNamedImage, HasEvents, NoEvents, IsInput, NoInput};
+ghost use Rattle.mssp_tool.specs.Files.{IsReadFrom, NotRead, HasProgram, NoProgram, HasImage, NoImage, IsNamedImage, NoNamedImage, HasEvents, NoEvents, HasProfile, NoProfile, IsInput, NoInput};
 
 use crate::answer::{Answer, Refusal, Source};
 use dist_image::{Image, ImageErr, empty_image, read_image};
 use elf_reader::{ElfErr, Program, read_elf};
 use event_list::{Event, EventErr, read_events};
 use outside::{Store, StoreErr};
+use profile_data::{Profile, ProfileErr, read_profile};
 use std::alloc::Global;
 
 /// The longest program file that is read.
@@ -21,6 +22,9 @@ const IMAGE_LIMIT: u64 = 67_108_864;
 
 /// The longest list of events that is read.
 const EVENTS_LIMIT: u64 = 67_108_864;
+
+/// The longest profile that is read.
+const PROFILE_LIMIT: u64 = 33_554_432;
 
 /// The longest input file that is read.
 const INPUT_LIMIT: u64 = 67_108_864;
@@ -114,6 +118,22 @@ pub fn events_in<S: Store>(
         Ok(list) => Ok(list),
         Err(EventErr::Memory) => Err(Answer::Memory),
         Err(refusal) => Err(Answer::Refused(Refusal::Events(refusal))),
+    }
+}
+
+/// The profile of that name.
+pub fn profile_in<S: Store>(alloc: Global, store: &mut S, name: &str) -> Result<Profile, Answer>
+    ensures files { S.told store.new ≡ S.told store.old }
+    ensures answer { MatchResult result
+        (HasProfile (S.told store.old) name.now)
+        (NoProfile (record { told = S.told store.old; before = S.faults store.old; now = S.faults store.new }) name.now) }
+    ensures faults { S.faults store.old ≤ S.faults store.new }
+{
+    let file = read(alloc, store, name, PROFILE_LIMIT, Source::Profile)?;
+    match read_profile(alloc, &file) {
+        Ok(profile) => Ok(profile),
+        Err(ProfileErr::Memory) => Err(Answer::Memory),
+        Err(refusal) => Err(Answer::Refused(Refusal::Profile(refusal))),
     }
 }
 

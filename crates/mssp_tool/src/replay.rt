@@ -1,4 +1,4 @@
-//! `replay`: its files, the engine over them, and the events of the list.
+//! `replay`: its files, the pair over them, and the events of the list.
 ghost use Rattle.std.specs.Prelude.{◌≡◌, MatchResult};
 ghost use Rattle.command_line.specs.Command.{shown_replay};
 ghost use Rattle.speculation.specs.Engine.{fresh};
@@ -14,14 +14,15 @@ use command_line::Replay;
 use engine::Engine;
 use event_list::Event;
 use memory::{Memory, PlainMemory};
+use nosquash::Pair;
 use outside::{Sink, SinkErr, Store};
 use seq_machine::load;
 use std::alloc::Global;
 
-/// An engine that has had no event, and the list of those that it will be given.
+/// A pair that has had no event, and the list of those that it will be given.
 #[derive(Drop)]
 struct Prepared<M: Memory> {
-    engine: Engine<M>,
+    pair: Pair<M>,
     list: Vec<(u32, Event)>,
 }
 
@@ -33,8 +34,8 @@ fn prepare<S: Store, M: Memory>(
 ) -> Result<Prepared<M>, Answer>
     ensures files { S.told store.new ≡ S.told store.old }
     ensures answer { MatchResult result
-        (λ ready. IsReady (S.told store.old) (shown_replay replay.now) (world_of M.at ready.engine) ready.list.items
-        × (model_of M.at ready.engine ≡ fresh (world_of M.at ready.engine)) × AreEvents ready.list.items)
+        (λ ready. IsReady (S.told store.old) (shown_replay replay.now) (world_of M.at ready.pair.engine) ready.list.items
+        × (model_of M.at ready.pair.engine ≡ fresh (world_of M.at ready.pair.engine)) × AreEvents ready.list.items)
         (Wanting (record { told = S.told store.old; before = S.faults store.old; now = S.faults store.new }) (shown_replay replay.now)) }
 {
     let program = program_in(alloc, store, replay.program)?;
@@ -54,7 +55,10 @@ fn prepare<S: Store, M: Memory>(
         return Err(Answer::Memory);
     };
     match Engine::new(alloc, machine, image, replay.slaves) {
-        Ok(engine) => Ok(Prepared { engine, list }),
+        Ok(engine) => {
+            let pair = Pair::new(engine, &program);
+            Ok(Prepared { pair, list })
+        }
         Err(_) => Err(Answer::Memory),
     }
 }
@@ -78,7 +82,7 @@ pub fn replay<S: Store, O: Sink>(
         Ok(ready) => ready,
         Err(answer) => return answer,
     };
-    match put_replay(alloc, out, &mut ready.engine, &ready.list) {
+    match put_replay(alloc, out, &mut ready.pair, &ready.list) {
         Ok(()) => Answer::Done,
         Err(SinkErr::Failed) => Answer::SinkFault,
         Err(SinkErr::Memory) => Answer::Memory,

@@ -1,9 +1,10 @@
 //! `run`: its files, the machine at its start, and its run.
 ghost use Rattle.std.specs.Prelude.{◌≡◌, ◌≤◌, [], MatchResult, IsNone};
 ghost use Rattle.dist_image.specs.Image.{IsImage};
+ghost use Rattle.elf_reader.specs.Executable.{IsProgram};
 ghost use Rattle.command_line.specs.Command.{shown_run};
 ghost use Rattle.mssp_tool.specs.Told.{Reads, Puts, OnlyChanges};
-ghost use Rattle.mssp_tool.specs.Run.{Unready, IsReady, Reported, RunCause};
+ghost use Rattle.mssp_tool.specs.Run.{Begins, Unready, IsReady, Reported, RunCause};
 ghost use Rattle.seq_machine.specs.States.{state_of};
 
 use crate::answer::Answer;
@@ -12,15 +13,18 @@ use crate::reading::{input_in, named_image_in, program_in};
 use crate::speculating::speculate;
 use command_line::Run;
 use dist_image::Image;
+use elf_reader::Program;
 use engine::Engine;
 use memory::{Memory, PlainMemory};
+use nosquash::Pair;
 use outside::{Sink, Store};
 use seq_machine::{Machine, load};
 use std::alloc::Global;
 
-/// The machine at the start of its run, and what is known of its program.
+/// A program, the machine at the start of its run, and what is known of the program.
 #[derive(Drop)]
 struct Prepared<M: Memory> {
+    program: Program,
     machine: Machine<M>,
     image: Image,
 }
@@ -34,7 +38,8 @@ fn prepare<S: Store, M: Memory>(
     ensures files { S.told store.new ≡ S.told store.old }
     ensures answer { MatchResult result
         (λ ready. IsReady (S.told store.old) (shown_run run.now) (state_of M.at ready.machine) ready.image
-        × IsImage ready.image × (ready.machine.position ≡ 0) × IsNone ready.machine.end × (ready.machine.out.items ≡ []))
+        × IsImage ready.image × (ready.machine.position ≡ 0) × IsNone ready.machine.end × (ready.machine.out.items ≡ [])
+        × IsProgram ready.program × Begins ready.program (state_of M.at ready.machine))
         (Unready (record { told = S.told store.old; before = S.faults store.old; now = S.faults store.new }) (shown_run run.now)) }
     ensures faults { S.faults store.old ≤ S.faults store.new }
 {
@@ -48,7 +53,11 @@ fn prepare<S: Store, M: Memory>(
         Err(answer) => return Err(answer),
     };
     match load(alloc, &program, input) {
-        Ok(machine) => Ok(Prepared { machine, image }),
+        Ok(machine) => Ok(Prepared {
+            program,
+            machine,
+            image,
+        }),
         Err(_) => Err(Answer::Memory),
     }
 }
@@ -67,13 +76,18 @@ fn run_reported<S: Store, O: Sink, M: Memory>(
     requires position { ready.machine.position ≡ 0 }
     requires running { IsNone ready.machine.end }
     requires silent { ready.machine.out.items ≡ [] }
+    requires program { IsProgram ready.program }
+    requires begins { Begins ready.program (state_of M.at ready.machine) }
     ensures { Reported (state_of M.at ready.machine) ready.image (shown_run run.now) name.now
         (record { told = S.told store.old; before = S.faults store.old; now = S.faults store.new }) (S.told store.new)
         (record { told = O.told out.old; left = O.told out.new; before = O.faults out.old; now = O.faults out.new })
         result }
 {
     match Engine::new(alloc, ready.machine, ready.image, run.slaves) {
-        Ok(mut engine) => speculate(alloc, store, out, &mut engine, run, name),
+        Ok(engine) => {
+            let mut pair = Pair::new(engine, &ready.program);
+            speculate(alloc, store, out, &mut pair, run, name)
+        }
         Err(_) => Answer::Memory,
     }
 }

@@ -1,5 +1,5 @@
 //! A run of a speculative machine: it is given events until it has come far enough, and then told of
-//! by a report.
+//! by a report. It is driven as a [`Pair`], which squashes nothing where its image fits and is met.
 ghost use Rattle.std.specs.Prelude.{◌≡◌, ◌≤◌, ◌^◌, ℕ, false, [], length, drop, IfOk, OnOk, IfErr};
 ghost use Rattle.outside.specs.Answers.{Gains};
 ghost use Rattle.command_line.specs.Command.{shown_run};
@@ -16,9 +16,9 @@ ghost use Rattle.mssp_tool.specs.Speculated.{schedule_of, events_of, IsStop, Unw
 use crate::answer::{Answer, Source};
 use crate::driving::{put_from, stand};
 use command_line::Run;
-use engine::Engine;
 use event_list::{Event, round};
 use memory::Memory;
+use nosquash::Pair;
 use outside::{Sink, Store, StoreErr};
 use report::summary_bytes;
 use std::alloc::Global;
@@ -55,10 +55,10 @@ fn event_at(schedule: Schedule, slaves: u8, k: u64) -> Event
 }
 
 // Whether the machine has ended, or stands at this position or past it.
-fn has_come<M: Memory>(engine: &Engine<M>, far: u64) -> bool
-    ensures { result ≡ has_come far (model_of M.at engine.now) }
+fn has_come<M: Memory>(pair: &Pair<M>, far: u64) -> bool
+    ensures { result ≡ has_come far (model_of M.at pair.now.engine) }
 {
-    let machine = engine.committed();
+    let machine = pair.engine().committed();
     machine.end.is_some() || far <= machine.position
 }
 
@@ -66,59 +66,59 @@ fn has_come<M: Memory>(engine: &Engine<M>, far: u64) -> bool
 fn put_new<O: Sink, M: Memory>(
     alloc: Global,
     out: &mut O,
-    engine: &Engine<M>,
+    pair: &Pair<M>,
     from: usize,
 ) -> Result<usize, Answer>
-    requires { from ≤ length (model_of M.at engine.now).committed.env.output }
-    ensures length { IfOk result (λ n. n ≡ length (model_of M.at engine.now).committed.env.output) }
+    requires { from ≤ length (model_of M.at pair.now.engine).committed.env.output }
+    ensures length { IfOk result (λ n. n ≡ length (model_of M.at pair.now.engine).committed.env.output) }
     ensures ok { OnOk result (Gains (O.told out.old) (O.told out.new)
-        (drop from (model_of M.at engine.now).committed.env.output)) }
+        (drop from (model_of M.at pair.now.engine).committed.env.output)) }
     ensures err { IfErr result (Stops (O.told out.old) (O.told out.new) (O.faults out.old) (O.faults out.new)
-        (drop from (model_of M.at engine.now).committed.env.output)) }
+        (drop from (model_of M.at pair.now.engine).committed.env.output)) }
     ensures faults { O.faults out.old ≤ O.faults out.new }
 {
-    let machine = engine.committed();
+    let machine = pair.engine().committed();
     match put_from(alloc, out, &machine.out, from) {
         Ok(()) => Ok(machine.out.len()),
         Err(answer) => Err(answer),
     }
 }
 
-/// Gives the engine events until its run has ended or stands at the budget or past it, and puts its
+/// Gives the pair events until its run has ended or stands at the budget or past it, and puts its
 /// output as it comes.
 fn advance<O: Sink, M: Memory>(
     alloc: Global,
-    engine: &mut Engine<M>,
+    pair: &mut Pair<M>,
     schedule: Schedule,
     slaves: u8,
     budget: u64,
     out: &mut O,
 ) -> Result<(), Answer>
-    requires fresh { model_of M.at engine.old ≡ fresh (world_of M.at engine.old) }
-    requires image { IsImage (image_of engine.old) }
-    requires running { is_over (start_of M.at engine.old) ≡ false }
-    requires silent { (start_of M.at engine.old).env.output ≡ [] }
-    requires slaves { slaves ≡ slaves_of engine.old }
+    requires fresh { model_of M.at pair.old.engine ≡ fresh (world_of M.at pair.old.engine) }
+    requires image { IsImage (image_of pair.old.engine) }
+    requires running { is_over (start_of M.at pair.old.engine) ≡ false }
+    requires silent { (start_of M.at pair.old.engine).env.output ≡ [] }
+    requires slaves { slaves ≡ slaves_of pair.old.engine }
     requires some { 1 ≤ slaves }
     requires few { slaves ≤ 64 }
     requires least { 1 ≤ budget }
     requires most { budget ≤ 10 ^ 12 }
-    ensures ok { OnOk result ((k : ℕ) × IsStop (world_of M.at engine.old) (events_of schedule (slaves_of engine.old)) budget k
-        × (model_of M.at engine.new ≡ after (world_of M.at engine.old) (events_of schedule (slaves_of engine.old)) k)
-        × Gains (O.told out.old) (O.told out.new) (after (world_of M.at engine.old) (events_of schedule (slaves_of engine.old)) k).committed.env.output) }
-    ensures err { IfErr result (λ a. (k : ℕ) × IsStop (world_of M.at engine.old) (events_of schedule (slaves_of engine.old)) budget k
+    ensures ok { OnOk result ((k : ℕ) × IsStop (world_of M.at pair.old.engine) (events_of schedule (slaves_of pair.old.engine)) budget k
+        × (model_of M.at pair.new.engine ≡ after (world_of M.at pair.old.engine) (events_of schedule (slaves_of pair.old.engine)) k)
+        × Gains (O.told out.old) (O.told out.new) (after (world_of M.at pair.old.engine) (events_of schedule (slaves_of pair.old.engine)) k).committed.env.output) }
+    ensures err { IfErr result (λ a. (k : ℕ) × IsStop (world_of M.at pair.old.engine) (events_of schedule (slaves_of pair.old.engine)) budget k
         × CutOff (record { told = O.told out.old; left = O.told out.new; before = O.faults out.old; now = O.faults out.new })
-        (after (world_of M.at engine.old) (events_of schedule (slaves_of engine.old)) k).committed.env.output a) }
+        (after (world_of M.at pair.old.engine) (events_of schedule (slaves_of pair.old.engine)) k).committed.env.output a) }
 {
     let mut given = 0;
     let mut put = 0;
-    while !has_come(engine, budget) {
+    while !has_come(pair, budget) {
         let e = event_at(schedule, slaves, given);
-        match engine.event(alloc, e) {
+        match pair.event(alloc, e) {
             Ok(_) => {}
             Err(_) => return Err(Answer::Memory),
         }
-        match put_new(alloc, out, engine, put) {
+        match put_new(alloc, out, pair, put) {
             Ok(length) => put = length,
             Err(answer) => return Err(answer),
         }
@@ -127,18 +127,18 @@ fn advance<O: Sink, M: Memory>(
     Ok(())
 }
 
-// Writes the lines that sum up what the engine did.
+// Writes the lines that sum up what the pair did.
 fn write_report<S: Store, M: Memory>(
     alloc: Global,
     store: &mut S,
     name: &str,
-    engine: &Engine<M>,
+    pair: &Pair<M>,
 ) -> Result<(), Answer>
-    ensures ok { OnOk result (Written (S.told store.old) (S.told store.new) name.now (summary_text (model_of M.at engine.now))) }
+    ensures ok { OnOk result (Written (S.told store.old) (S.told store.new) name.now (summary_text (model_of M.at pair.now.engine))) }
     ensures err { IfErr result (Unwritten
         (record { told = S.told store.old; before = S.faults store.old; now = S.faults store.new }) (S.told store.new) name.now) }
 {
-    let Ok(text) = summary_bytes(alloc, engine) else {
+    let Ok(text) = summary_bytes(alloc, pair.engine()) else {
         return Err(Answer::Memory);
     };
     match store.write(alloc, name, &text) {
@@ -148,33 +148,33 @@ fn write_report<S: Store, M: Memory>(
     }
 }
 
-/// Runs an engine that has had no event, in rounds beside an image and else by serial steps alone,
+/// Runs a pair that has had no event, in rounds beside an image and else by serial steps alone,
 /// puts its output as it comes, and writes a report of that name.
 pub fn speculate<S: Store, O: Sink, M: Memory>(
     alloc: Global,
     store: &mut S,
     out: &mut O,
-    engine: &mut Engine<M>,
+    pair: &mut Pair<M>,
     run: &Run<'_>,
     name: &str,
 ) -> Answer
-    requires fresh { model_of M.at engine.old ≡ fresh (world_of M.at engine.old) }
-    requires image { IsImage (image_of engine.old) }
-    requires running { is_over (start_of M.at engine.old) ≡ false }
-    requires silent { (start_of M.at engine.old).env.output ≡ [] }
-    requires slaves { run.now.slaves ≡ slaves_of engine.old }
-    ensures { Speculated (world_of M.at engine.old) (events_of (schedule_of (shown_run run.now).image) (slaves_of engine.old)) run.now.budget name.now
+    requires fresh { model_of M.at pair.old.engine ≡ fresh (world_of M.at pair.old.engine) }
+    requires image { IsImage (image_of pair.old.engine) }
+    requires running { is_over (start_of M.at pair.old.engine) ≡ false }
+    requires silent { (start_of M.at pair.old.engine).env.output ≡ [] }
+    requires slaves { run.now.slaves ≡ slaves_of pair.old.engine }
+    ensures { Speculated (world_of M.at pair.old.engine) (events_of (schedule_of (shown_run run.now).image) (slaves_of pair.old.engine)) run.now.budget name.now
         (record { told = S.told store.old; before = S.faults store.old; now = S.faults store.new }) (S.told store.new)
         (record { told = O.told out.old; left = O.told out.new; before = O.faults out.old; now = O.faults out.new })
         result }
 {
     let schedule = schedule_of(run);
-    match advance(alloc, engine, schedule, run.slaves, run.budget, out) {
+    match advance(alloc, pair, schedule, run.slaves, run.budget, out) {
         Ok(()) => {}
         Err(answer) => return answer,
     }
-    match write_report(alloc, store, name, engine) {
-        Ok(()) => stand(engine.committed()),
+    match write_report(alloc, store, name, pair) {
+        Ok(()) => stand(pair.engine().committed()),
         Err(answer) => answer,
     }
 }

@@ -6,6 +6,9 @@ ghost use Rattle.mssp_tool.specs.Told.{Reads, Puts, OnlyChanges};
 ghost use Rattle.mssp_tool.specs.Top.{Cause, Tells, Answered, output_of};
 
 use crate::answer::{Answer, line, status};
+use crate::check::check;
+use crate::distill::distill;
+use crate::profile::profile;
 use crate::replay::replay;
 use crate::run::run;
 use crate::show::show;
@@ -31,6 +34,9 @@ fn perform<S: Store, O: Sink>(
         Some(Command::Run(asked)) => run(alloc, store, out, &asked),
         Some(Command::Show { image }) => show(alloc, store, out, image),
         Some(Command::Replay(asked)) => replay(alloc, store, out, &asked),
+        Some(Command::Profile(asked)) => profile(alloc, store, &asked),
+        Some(Command::Distill(asked)) => distill(alloc, store, &asked),
+        Some(Command::Check(asked)) => check(alloc, store, out, &asked),
         None => Answer::Usage,
     }
 }
@@ -55,7 +61,8 @@ fn tell<E: Sink>(alloc: Global, err: &mut E, answer: Answer, command: Option<Com
 ///
 /// `words` doesn't hold the program's own name. Files are read from `store`, the guest's output as it comes
 /// or the command's text is put to `out`, and a refusal or fault has its line on `err`. No file changes
-/// but the one that the command writes.
+/// but the one that the command writes. With an image that fits the program nothing is squashed, as far
+/// as the run meets the image's list.
 pub fn mssp<S: Store, O: Sink, E: Sink>(
     alloc: Global,
     words: &[String],

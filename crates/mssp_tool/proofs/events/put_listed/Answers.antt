@@ -13,9 +13,9 @@ put_repeated-requires g c =
     let list = c.args.list.now in
     let i = c.loop-count.count-index in
     let x : ℕ × Event = get_or list i (0, Master) in
-    let l : (model_of g.M.Memory.at c.loop-count.engine).counts.events + length (replicate x.0 x.1) < 2 ^ 64 =
+    let l : (model_of g.M.Memory.at c.loop-count.pair.engine).counts.events + length (replicate x.0 x.1) < 2 ^ 64 =
     fits (replicate x.0 x.1) (written_out (drop (i + 1) list)) (2 ^ 64) (listed-next list i (0, Master) c.loop-count-test.true) c.loop-count.invariant c.requires in
-    subst (λ n. (model_of g.M.Memory.at c.loop-count.engine).counts.events + n < 2 ^ 64) (length-replicate x.0 x.1) l
+    subst (λ n. (model_of g.M.Memory.at c.loop-count.pair.engine).counts.events + n < 2 ^ 64) (length-replicate x.0 x.1) l
 
 pub returns-in_err-put_repeated-clause-put : goal.returns-in_err-put_repeated-clause-put
 returns-in_err-put_repeated-clause-put g c =

@@ -7,5 +7,5 @@ use Rattle.mssp_tool.proofs.events.put_listed.Given as goal
 
 abbrev pub invariant-loop-count : goal.invariant-loop-count
 invariant-loop-count g l =
-    Along (world_of g.M.Memory.at l.fn.engine) (model_of g.M.Memory.at l.fn.engine) (written_out l.list) (g.O.Sink.told l.fn.out) (g.O.Sink.faults l.fn.out)
-    (world_of g.M.Memory.at l.engine) (model_of g.M.Memory.at l.engine) (written_out (drop l.count-index l.list)) (g.O.Sink.told l.out) (g.O.Sink.faults l.out)
+    Along (world_of g.M.Memory.at l.fn.pair.engine) (model_of g.M.Memory.at l.fn.pair.engine) (written_out l.list) (g.O.Sink.told l.fn.out) (g.O.Sink.faults l.fn.out)
+    (world_of g.M.Memory.at l.pair.engine) (model_of g.M.Memory.at l.pair.engine) (written_out (drop l.count-index l.list)) (g.O.Sink.told l.out) (g.O.Sink.faults l.out)

@@ -9,8 +9,8 @@ pub put_event-requires : goal.put_event-requires
 put_event-requires g c =
     let count = c.args.count in
     let i = c.loop-turn.turn in
-    let l : (model_of g.M.Memory.at c.args.engine.now).counts.events + length (replicate count c.args.e) < 2 ^ 64 =
-    subst (λ n. (model_of g.M.Memory.at c.args.engine.now).counts.events + n < 2 ^ 64) (sym (length-replicate count c.args.e)) c.requires in
+    let l : (model_of g.M.Memory.at c.args.pair.now.engine).counts.events + length (replicate count c.args.e) < 2 ^ 64 =
+    subst (λ n. (model_of g.M.Memory.at c.args.pair.now.engine).counts.events + n < 2 ^ 64) (sym (length-replicate count c.args.e)) c.requires in
     fits (c.args.e ∷ []) (replicate (count - (i + 1)) c.args.e) (2 ^ 64) (replicate-next count i c.args.e c.loop-turn-test.true) c.loop-turn.invariant l
 
 pub returns-in_err-put_event-clause-put : goal.returns-in_err-put_event-clause-put

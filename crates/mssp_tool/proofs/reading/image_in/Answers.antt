@@ -7,5 +7,5 @@ pub returns-in-Ok-clause-answer : goal.returns-in-Ok-clause-answer
 returns-in-Ok-clause-answer g c =
     let same = c.deref.ensures.value in (
       c.in-Ok.ensures.found.0,
-      (c.in_ok-file.file.items, record { read = c.in_ok-file.ensures.answer; accepted = ap image_from (sym same) ∙ c.in-Ok.ensures.exact }),
+      (c.in_ok-file.file.items, record { read = c.in_ok-file.ensures.answer; accepted = ap image_from (sym same) ∙ c.in-Ok.ensures.exact; is_image = c.in-Ok.ensures.found.0 }),
     )

@@ -1,10 +1,12 @@
 -- The ways out behind an accepted program: each later file was read from the store as it was told at first.
-use Rattle.std.proofs.Common.{ap, ◌≡◌, ◌≤◌, inl, inr, subst, ◌∙◌, arith, Err}
+use Rattle.std.proofs.Common.{ap, sym, ◌≡◌, ◌≤◌, inl, inr, subst, ◌∙◌, arith, Err}
 use Rattle.dist_image.specs.Reading.{image_from}
 use Rattle.dist_image.specs.declared.error.ImageErr.{ImageErr}
 use Rattle.event_list.specs.Reading.{list_in}
 use Rattle.event_list.specs.declared.error.EventErr.{EventErr}
 use Rattle.image_world.specs.World.{world}
+use Rattle.speculation.specs.Engine.{fresh}
+use Rattle.engine.specs.Whole.{model_of, world_of}
 use Rattle.seq_machine.specs.Parts.{start_of}
 use Rattle.command_line.specs.Command.{shown_replay}
 use Rattle.mssp_tool.specs.declared.answer.Source.TheVariants as source
@@ -71,4 +73,9 @@ returns-in-Ok-new-clause-answer g c =
       input = is_input (g.S.Store.told c.args.store.now) (g.S.Store.told c.events_in.new.store) r.input i (third.files ∙ second.files ∙ first.files) c.in-Ok-input_in.ensures.answer;
     } in
     let start = c.in-Ok-new.ensures.start ∙ c.in-Ok-load.ensures.state ∙ ap (λ q. start_of q i) has.2 in
-    ((has.0, i, image, files, (λ k. world (start k) (c.in-Ok-new.ensures.image k) (c.in-Ok-new.ensures.slaves k)), c.in-Ok.ensures.answer.0), c.in-Ok-new.ensures.model, c.in-Ok-events_in.ensures.answer.0)
+    let at = g.M.Memory.at in
+    let same = c.new-pair.ensures.engine in (
+      (has.0, i, image, files, ap (world_of at) same ∙ (λ k. world (start k) (c.in-Ok-new.ensures.image k) (c.in-Ok-new.ensures.slaves k)), c.in-Ok.ensures.answer.0),
+      ap (model_of at) same ∙ (c.in-Ok-new.ensures.model ∙ ap fresh (sym (ap (world_of at) same))),
+      c.in-Ok-events_in.ensures.answer.0,
+    )

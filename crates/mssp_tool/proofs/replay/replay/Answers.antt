@@ -1,11 +1,14 @@
 -- By what the engine's events and their lines came to.
-use Rattle.std.proofs.Common.{ap, Ok, Err, ◌∙◌}
+use Rattle.std.proofs.Common.{ap, Ok, Err, refl, inl, ◌∙◌}
 use Rattle.outside.specs.declared.SinkErr.TheVariants as put
 use Rattle.event_list.specs.Reading.{written_out}
 use Rattle.command_line.specs.Command.{shown_replay}
 use Rattle.mssp_tool.specs.Told.{Reads}
 use Rattle.mssp_tool.proofs.Replays.{replayed}
 use Rattle.mssp_tool.proofs.replay.replay.Goals as goal
+
+pub returns-in-Err-clause-cause : goal.returns-in-Err-clause-cause
+returns-in-Err-clause-cause g c = inl (c.in-Err.ensures.answer, refl)
 
 pub returns-in-Ok-put_replay-clause-cause : goal.returns-in-Ok-put_replay-clause-cause
 returns-in-Ok-put_replay-clause-cause g c =

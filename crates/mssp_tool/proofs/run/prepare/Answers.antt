@@ -1,11 +1,17 @@
 -- The ways out behind an accepted program: each later file was read from the store as it was told at first.
-use Rattle.std.proofs.Common.{◌≤◌, inl, inr, ap, ◌∙◌, arith}
+use Rattle.std.proofs.Common.{◌≡◌, ◌≤◌, ℕ, List, inl, inr, ap, sym, ◌∙◌, arith}
 use Rattle.std.specs.Prelude.{is_some}
 use Rattle.cells.specs.Run.{State}
+use Rattle.elf_reader.specs.Executable.{Executable}
 use Rattle.seq_machine.specs.Parts.{start_of}
+use Rattle.mssp_tool.specs.Run.{Begins}
 use Rattle.command_line.specs.Command.{shown_run}
 use Rattle.mssp_tool.proofs.Ready.{no_named_image_within, is_named_image, no_input_within, is_input}
 use Rattle.mssp_tool.proofs.run.prepare.Goals as goal
+
+-- a state that is the start with an input holds that input
+begins : (program : Executable) {input : List ℕ} {s : State} → s ≡ start_of program input → Begins program s
+begins program is = is ∙ ap (λ (s : State). start_of program s.env.input) (sym is)
 
 pub returns-in-Err-clause-answer : goal.returns-in-Err-clause-answer
 returns-in-Err-clause-answer g c =
@@ -50,4 +56,6 @@ returns-in-Ok-load-clause-answer g c =
       c.in-Ok-load.ensures.position,
       ap (λ (s : State). is_some s.env.over) c.in-Ok-load.ensures.state,
       ap (λ (s : State). s.env.output) c.in-Ok-load.ensures.state,
+      c.in_ok-program.ensures.answer.0,
+      begins c.in_ok-program.program c.in-Ok-load.ensures.state,
     )

@@ -25,7 +25,7 @@ goes_on far m m' b e f is = ap (has_come far) (sym is) ∙ sym e ∙ f
 pub loop-alloc-init : goal.loop-alloc-init
 loop-alloc-init g c =
     let at = g.M.Memory.at in
-    let e0 = c.args.engine.now in
+    let e0 = c.args.pair.now.engine in
     let begun = begins_after (world_of at e0) (events_of c.args.schedule (slaves_of e0)) (model_of at e0) c.requires.fresh in
     let silent = silent_after (world_of at e0) (events_of c.args.schedule (slaves_of e0)) c.requires.silent in
     record {
@@ -40,10 +40,10 @@ loop-alloc-init g c =
 pub event-requires : goal.event-requires
 event-requires g c =
     let at = g.M.Memory.at in
-    let e0 = c.args.engine.now in
+    let e0 = c.args.pair.now.engine in
     let i = c.loop-alloc.invariant in
     let some : 0 < slaves_of e0 = let s = c.requires.slaves in let l = c.requires.some in omega (arith, s, l) in
-    let goes = goes_on c.args.budget (model_of at c.loop-alloc.engine) (after (world_of at e0) (events_of c.args.schedule (slaves_of e0)) c.loop-alloc.given) c.has_come.result c.has_come.ensures c.loop-alloc-test.true i.model in
+    let goes = goes_on c.args.budget (model_of at c.loop-alloc.pair.engine) (after (world_of at e0) (events_of c.args.schedule (slaves_of e0)) c.loop-alloc.given) c.has_come.result c.has_come.ensures c.loop-alloc-test.true i.model in
     let counted = ap (λ (m : Model). m.counts.events) i.model ∙ counted_after (world_of at e0) (events_of c.args.schedule (slaves_of e0)) c.loop-alloc.given in
     let l = comes (start_of at e0) (image_of e0) (slaves_of e0) c.requires.image some c.args.schedule c.args.budget c.loop-alloc.given goes in
     let few : slaves_of e0 ≤ 64 = let s = c.requires.slaves in let l = c.requires.few in omega (arith, s, l) in
@@ -53,7 +53,7 @@ event-requires g c =
 pub returns-in-Err-clause-err : goal.returns-in-Err-clause-err
 returns-in-Err-clause-err g c =
     let at = g.M.Memory.at in
-    let e0 = c.args.engine.now in
+    let e0 = c.args.pair.now.engine in
     let i = c.loop-alloc.invariant in
     let some : 0 < slaves_of e0 = let s = c.requires.slaves in let l = c.requires.some in omega (arith, s, l) in
     no_memory (start_of at e0) (image_of e0) (slaves_of e0) c.requires.image some c.args.schedule c.args.budget c.requires.least c.requires.running c.loop-alloc.given i.not_yet (g.O.Sink.told c.args.out.now) (g.O.Sink.told c.loop-alloc.out) i.told (g.O.Sink.faults c.args.out.now) (g.O.Sink.faults c.loop-alloc.out)
@@ -61,28 +61,28 @@ returns-in-Err-clause-err g c =
 pub put_new-requires : goal.put_new-requires
 put_new-requires g c =
     let at = g.M.Memory.at in
-    let e0 = c.args.engine.now in
+    let e0 = c.args.pair.now.engine in
     let i = c.loop-alloc.invariant in
     let some : 0 < slaves_of e0 = let s = c.requires.slaves in let l = c.requires.some in omega (arith, s, l) in
-    let goes = goes_on c.args.budget (model_of at c.loop-alloc.engine) (after (world_of at e0) (events_of c.args.schedule (slaves_of e0)) c.loop-alloc.given) c.has_come.result c.has_come.ensures c.loop-alloc-test.true i.model in
-    let model : model_of at c.event.new.self ≡ after (world_of at e0) (events_of c.args.schedule (slaves_of e0)) (c.loop-alloc.given + 1) =
-    next_after (world_of at e0) (events_of c.args.schedule (slaves_of e0)) c.loop-alloc.given (c.loop-alloc.given + 1) (model_of at c.loop-alloc.engine) (model_of at c.event.new.self) c.event_at-e.result i.model
+    let goes = goes_on c.args.budget (model_of at c.loop-alloc.pair.engine) (after (world_of at e0) (events_of c.args.schedule (slaves_of e0)) c.loop-alloc.given) c.has_come.result c.has_come.ensures c.loop-alloc-test.true i.model in
+    let model : model_of at c.event.new.self.engine ≡ after (world_of at e0) (events_of c.args.schedule (slaves_of e0)) (c.loop-alloc.given + 1) =
+    next_after (world_of at e0) (events_of c.args.schedule (slaves_of e0)) c.loop-alloc.given (c.loop-alloc.given + 1) (model_of at c.loop-alloc.pair.engine) (model_of at c.event.new.self.engine) c.event_at-e.result i.model
     (c.event_at-e.ensures ∙ ap (λ n. events_of c.args.schedule n c.loop-alloc.given) c.requires.slaves)
-    (ap (λ x. x.1) c.in-Ok.ensures.ok ∙ ap (λ w. (happens w (model_of at c.loop-alloc.engine) c.event_at-e.result).1) i.world) refl in
+    (ap (λ x. x.1) c.in-Ok.ensures.ok ∙ ap (λ w. (happens w (model_of at c.loop-alloc.pair.engine) c.event_at-e.result).1) i.world) refl in
     subst (λ (m : Model). c.loop-alloc.put ≤ length m.committed.env.output) (sym model)
     (room_to_put (start_of at e0) (image_of e0) (slaves_of e0) c.requires.image some c.args.schedule c.args.budget c.requires.least c.requires.running c.loop-alloc.given i.not_yet (g.O.Sink.told c.args.out.now) (g.O.Sink.told c.loop-alloc.out) i.told (c.loop-alloc.given + 1) c.loop-alloc.put refl i.put goes)
 
 pub returns-in-Err-put_new-clause-err : goal.returns-in-Err-put_new-clause-err
 returns-in-Err-put_new-clause-err g c =
     let at = g.M.Memory.at in
-    let e0 = c.args.engine.now in
+    let e0 = c.args.pair.now.engine in
     let i = c.loop-alloc.invariant in
     let some : 0 < slaves_of e0 = let s = c.requires.slaves in let l = c.requires.some in omega (arith, s, l) in
-    let goes = goes_on c.args.budget (model_of at c.loop-alloc.engine) (after (world_of at e0) (events_of c.args.schedule (slaves_of e0)) c.loop-alloc.given) c.has_come.result c.has_come.ensures c.loop-alloc-test.true i.model in
-    let model : model_of at c.event.new.self ≡ after (world_of at e0) (events_of c.args.schedule (slaves_of e0)) (c.loop-alloc.given + 1) =
-    next_after (world_of at e0) (events_of c.args.schedule (slaves_of e0)) c.loop-alloc.given (c.loop-alloc.given + 1) (model_of at c.loop-alloc.engine) (model_of at c.event.new.self) c.event_at-e.result i.model
+    let goes = goes_on c.args.budget (model_of at c.loop-alloc.pair.engine) (after (world_of at e0) (events_of c.args.schedule (slaves_of e0)) c.loop-alloc.given) c.has_come.result c.has_come.ensures c.loop-alloc-test.true i.model in
+    let model : model_of at c.event.new.self.engine ≡ after (world_of at e0) (events_of c.args.schedule (slaves_of e0)) (c.loop-alloc.given + 1) =
+    next_after (world_of at e0) (events_of c.args.schedule (slaves_of e0)) c.loop-alloc.given (c.loop-alloc.given + 1) (model_of at c.loop-alloc.pair.engine) (model_of at c.event.new.self.engine) c.event_at-e.result i.model
     (c.event_at-e.ensures ∙ ap (λ n. events_of c.args.schedule n c.loop-alloc.given) c.requires.slaves)
-    (ap (λ x. x.1) c.in-Ok.ensures.ok ∙ ap (λ w. (happens w (model_of at c.loop-alloc.engine) c.event_at-e.result).1) i.world) refl in
+    (ap (λ x. x.1) c.in-Ok.ensures.ok ∙ ap (λ w. (happens w (model_of at c.loop-alloc.pair.engine) c.event_at-e.result).1) i.world) refl in
     stopped_there (start_of at e0) (image_of e0) (slaves_of e0) c.requires.image some c.args.schedule c.args.budget c.requires.least c.requires.running c.loop-alloc.given i.not_yet (g.O.Sink.told c.args.out.now) (g.O.Sink.told c.loop-alloc.out) i.told (c.loop-alloc.given + 1) c.loop-alloc.put refl i.put goes
     (g.O.Sink.told c.put_new.new.out) (g.O.Sink.faults c.args.out.now) (g.O.Sink.faults c.loop-alloc.out) (g.O.Sink.faults c.put_new.new.out) c.in-Err-put_new.answer i.faults
     (subst (λ (m : Model). Stops (g.O.Sink.told c.loop-alloc.out) (g.O.Sink.told c.put_new.new.out) (g.O.Sink.faults c.loop-alloc.out) (g.O.Sink.faults c.put_new.new.out) (drop c.loop-alloc.put m.committed.env.output) c.in-Err-put_new.answer) model c.in-Err-put_new.ensures.err)
@@ -90,10 +90,10 @@ returns-in-Err-put_new-clause-err g c =
 pub overflow_add-given : goal.overflow_add-given
 overflow_add-given g c =
     let at = g.M.Memory.at in
-    let e0 = c.args.engine.now in
+    let e0 = c.args.pair.now.engine in
     let i = c.loop-alloc.invariant in
     let some : 0 < slaves_of e0 = let s = c.requires.slaves in let l = c.requires.some in omega (arith, s, l) in
-    let goes = goes_on c.args.budget (model_of at c.loop-alloc.engine) (after (world_of at e0) (events_of c.args.schedule (slaves_of e0)) c.loop-alloc.given) c.has_come.result c.has_come.ensures c.loop-alloc-test.true i.model in
+    let goes = goes_on c.args.budget (model_of at c.loop-alloc.pair.engine) (after (world_of at e0) (events_of c.args.schedule (slaves_of e0)) c.loop-alloc.given) c.has_come.result c.has_come.ensures c.loop-alloc-test.true i.model in
     let l = comes (start_of at e0) (image_of e0) (slaves_of e0) c.requires.image some c.args.schedule c.args.budget c.loop-alloc.given goes in
     let few : slaves_of e0 ≤ 64 = let s = c.requires.slaves in let l = c.requires.few in omega (arith, s, l) in
     let room = few_events (start_of at e0) (image_of e0) (slaves_of e0) c.requires.image some c.args.schedule c.args.budget few c.requires.most in
@@ -102,24 +102,24 @@ overflow_add-given g c =
 pub loop-alloc-smaller : goal.loop-alloc-smaller
 loop-alloc-smaller g c =
     let at = g.M.Memory.at in
-    let e0 = c.args.engine.now in
+    let e0 = c.args.pair.now.engine in
     let i = c.loop-alloc.invariant in
     let some : 0 < slaves_of e0 = let s = c.requires.slaves in let l = c.requires.some in omega (arith, s, l) in
-    let goes = goes_on c.args.budget (model_of at c.loop-alloc.engine) (after (world_of at e0) (events_of c.args.schedule (slaves_of e0)) c.loop-alloc.given) c.has_come.result c.has_come.ensures c.loop-alloc-test.true i.model in
+    let goes = goes_on c.args.budget (model_of at c.loop-alloc.pair.engine) (after (world_of at e0) (events_of c.args.schedule (slaves_of e0)) c.loop-alloc.given) c.has_come.result c.has_come.ensures c.loop-alloc-test.true i.model in
     let l = comes (start_of at e0) (image_of e0) (slaves_of e0) c.requires.image some c.args.schedule c.args.budget c.loop-alloc.given goes in
     omega (arith, l)
 
 pub loop-alloc-preserved : goal.loop-alloc-preserved
 loop-alloc-preserved g c =
     let at = g.M.Memory.at in
-    let e0 = c.args.engine.now in
+    let e0 = c.args.pair.now.engine in
     let i = c.loop-alloc.invariant in
     let some : 0 < slaves_of e0 = let s = c.requires.slaves in let l = c.requires.some in omega (arith, s, l) in
-    let goes = goes_on c.args.budget (model_of at c.loop-alloc.engine) (after (world_of at e0) (events_of c.args.schedule (slaves_of e0)) c.loop-alloc.given) c.has_come.result c.has_come.ensures c.loop-alloc-test.true i.model in
-    let model : model_of at c.event.new.self ≡ after (world_of at e0) (events_of c.args.schedule (slaves_of e0)) (c.loop-alloc.given + 1) =
-    next_after (world_of at e0) (events_of c.args.schedule (slaves_of e0)) c.loop-alloc.given (c.loop-alloc.given + 1) (model_of at c.loop-alloc.engine) (model_of at c.event.new.self) c.event_at-e.result i.model
+    let goes = goes_on c.args.budget (model_of at c.loop-alloc.pair.engine) (after (world_of at e0) (events_of c.args.schedule (slaves_of e0)) c.loop-alloc.given) c.has_come.result c.has_come.ensures c.loop-alloc-test.true i.model in
+    let model : model_of at c.event.new.self.engine ≡ after (world_of at e0) (events_of c.args.schedule (slaves_of e0)) (c.loop-alloc.given + 1) =
+    next_after (world_of at e0) (events_of c.args.schedule (slaves_of e0)) c.loop-alloc.given (c.loop-alloc.given + 1) (model_of at c.loop-alloc.pair.engine) (model_of at c.event.new.self.engine) c.event_at-e.result i.model
     (c.event_at-e.ensures ∙ ap (λ n. events_of c.args.schedule n c.loop-alloc.given) c.requires.slaves)
-    (ap (λ x. x.1) c.in-Ok.ensures.ok ∙ ap (λ w. (happens w (model_of at c.loop-alloc.engine) c.event_at-e.result).1) i.world) refl in
+    (ap (λ x. x.1) c.in-Ok.ensures.ok ∙ ap (λ w. (happens w (model_of at c.loop-alloc.pair.engine) c.event_at-e.result).1) i.world) refl in
     record {
       world = same_world _ _ _ _ _ _ c.in-Ok.ensures.start c.in-Ok.ensures.image c.in-Ok.ensures.slaves ∙ i.world;
       model = model;
@@ -133,7 +133,7 @@ loop-alloc-preserved g c =
 pub returns-clause-ok : goal.returns-clause-ok
 returns-clause-ok g c =
     let at = g.M.Memory.at in
-    let e0 = c.args.engine.now in
+    let e0 = c.args.pair.now.engine in
     let i = c.loop-alloc.invariant in
     let some : 0 < slaves_of e0 = let s = c.requires.slaves in let l = c.requires.some in omega (arith, s, l) in
     let there = ap (has_come c.args.budget) (sym i.model) ∙ sym c.has_come.ensures ∙ c.loop-alloc-test.false in

@@ -8,13 +8,13 @@ use Rattle.mssp_tool.proofs.speculating.advance.Given as goal
 
 abbrev pub invariant-loop-alloc : goal.invariant-loop-alloc
 invariant-loop-alloc g l = record {
-  world : world_of g.M.Memory.at l.engine ≡ world_of g.M.Memory.at l.fn.engine;
-  model : model_of g.M.Memory.at l.engine ≡ after (world_of g.M.Memory.at l.fn.engine) (events_of l.schedule (slaves_of l.fn.engine)) l.given;
-  not_yet : (i : ℕ) → i < l.given → has_come l.budget (after (world_of g.M.Memory.at l.fn.engine) (events_of l.schedule (slaves_of l.fn.engine)) i) ≡ false;
-  put : l.put ≡ length (after (world_of g.M.Memory.at l.fn.engine) (events_of l.schedule (slaves_of l.fn.engine)) l.given).committed.env.output;
-  told : Gains (g.O.Sink.told l.fn.out) (g.O.Sink.told l.out) (after (world_of g.M.Memory.at l.fn.engine) (events_of l.schedule (slaves_of l.fn.engine)) l.given).committed.env.output;
+  world : world_of g.M.Memory.at l.pair.engine ≡ world_of g.M.Memory.at l.fn.pair.engine;
+  model : model_of g.M.Memory.at l.pair.engine ≡ after (world_of g.M.Memory.at l.fn.pair.engine) (events_of l.schedule (slaves_of l.fn.pair.engine)) l.given;
+  not_yet : (i : ℕ) → i < l.given → has_come l.budget (after (world_of g.M.Memory.at l.fn.pair.engine) (events_of l.schedule (slaves_of l.fn.pair.engine)) i) ≡ false;
+  put : l.put ≡ length (after (world_of g.M.Memory.at l.fn.pair.engine) (events_of l.schedule (slaves_of l.fn.pair.engine)) l.given).committed.env.output;
+  told : Gains (g.O.Sink.told l.fn.out) (g.O.Sink.told l.out) (after (world_of g.M.Memory.at l.fn.pair.engine) (events_of l.schedule (slaves_of l.fn.pair.engine)) l.given).committed.env.output;
   faults : g.O.Sink.faults l.fn.out ≤ g.O.Sink.faults l.out;
 }
 
 abbrev pub decreases-loop-alloc : goal.decreases-loop-alloc
-decreases-loop-alloc g l = most l.schedule (world_of g.M.Memory.at l.fn.engine) l.budget - l.given
+decreases-loop-alloc g l = most l.schedule (world_of g.M.Memory.at l.fn.pair.engine) l.budget - l.given

@@ -7,8 +7,8 @@ use Rattle.mssp_tool.proofs.speculating.speculate.Goals as goal
 
 pub returns-in-Err-write_report : goal.returns-in-Err-write_report
 returns-in-Err-write_report g c =
-    unwritten_run (world_of g.M.Memory.at c.args.engine.now) c.schedule_of-schedule.result (schedule_of (shown_run c.args.run.now).image) (slaves_of c.args.engine.now) c.args.run.now.budget
-    (model_of g.M.Memory.at c.advance.new.engine) c.args.name.now (record { told = g.S.Store.told c.args.store.now; before = g.S.Store.faults c.args.store.now; now = g.S.Store.faults c.write_report.new.store })
+    unwritten_run (world_of g.M.Memory.at c.args.pair.now.engine) c.schedule_of-schedule.result (schedule_of (shown_run c.args.run.now).image) (slaves_of c.args.pair.now.engine) c.args.run.now.budget
+    (model_of g.M.Memory.at c.advance.new.pair.engine) c.args.name.now (record { told = g.S.Store.told c.args.store.now; before = g.S.Store.faults c.args.store.now; now = g.S.Store.faults c.write_report.new.store })
     (g.S.Store.told c.write_report.new.store)
     (record { told = g.O.Sink.told c.args.out.now; left = g.O.Sink.told c.advance.new.out; before = g.O.Sink.faults c.args.out.now; now = g.O.Sink.faults c.advance.new.out })
     c.in-Err-write_report.answer c.schedule_of-schedule.ensures c.in-Ok.ensures.ok c.in-Err-write_report.ensures.err

@@ -1,0 +1,176 @@
+-- What a replay puts and a report tells, by the laws against squashes.
+use Rattle.std.proofs.Common.{◌≡◌, ℕ, ◌<◌, zero, suc, Bool, true, false, cond, List, [], ◌∷◌, take, Option, Some, None, refl, subst, inl, inr}
+use Rattle.std.specs.Prelude.{slice_get, option_map}
+use Rattle.outside.specs.Files.{Files}
+use Rattle.cells.specs.declared.End.{End}
+use Rattle.cells.specs.Run.{State, is_over}
+use Rattle.command_line.specs.Command.{Run, Replay, RunCommand, ReplayCommand, shown, shown_run, shown_replay}
+use Rattle.command_line.specs.declared.commands.Command.{Command as ReadCommand}
+use Rattle.command_line.specs.declared.commands.Command.TheVariants.{Run as ReadRun, Show as ReadShow, Replay as ReadReplay, Profile as ReadProfile, Distill as ReadDistill, Check as ReadCheck}
+use Rattle.speculation.specs.declared.Counts.{Counts}
+use Rattle.speculation.specs.declared.Effect.{Effect}
+use Rattle.speculation.specs.declared.Effect.TheVariants.{Idle}
+use Rattle.speculation.specs.declared.Event.{Event}
+use Rattle.speculation.specs.declared.Event.TheVariants.{Serial as SerialEvent}
+use Rattle.speculation.specs.declared.Mode.{Mode}
+use Rattle.speculation.specs.declared.Mode.TheVariants.{Serial, Speculating}
+use Rattle.speculation.specs.World.{World, step}
+use Rattle.speculation.specs.Engine.{Model, run, effects, happens, fresh, counted, going_on, serial_step, told_end, counted_by}
+use Rattle.speculation.proofs.Keeps.{fresh_holds, run_keeps}
+use Rattle.squash_laws.specs.Tracks.{IsSafe}
+use Rattle.squash_laws.proofs.Safe.{happens_safe, run_tracks, fresh_tracks}
+use Rattle.dist_image.specs.Image.{Distilled, IsImage}
+use Rattle.image_world.specs.World.{world}
+use Rattle.fitting_laws.specs.Setting.{setting}
+use Rattle.fitting_laws.proofs.Sets.{is_setting}
+use Rattle.nosquash.proofs.Clean.{clean}
+use Rattle.schedules.specs.Schedule.{after, alone}
+use Rattle.event_list.specs.Reading.{written_out}
+use Rattle.mssp_tool.specs.declared.answer.Answer.{Answer}
+use Rattle.mssp_tool.specs.declared.answer.Answer.TheVariants.{Usage, Absent, StoreFault, SinkFault, Memory, TooLong, Refused, Done, Ran, Budget, Broken}
+use Rattle.mssp_tool.specs.Told.{Reads, Puts, Written}
+use Rattle.mssp_tool.specs.Speculated.{schedule_of, events_of}
+use Rattle.mssp_tool.specs.declared.speculating.Schedule.TheVariants.{Rounds}
+use Rattle.mssp_tool.specs.Files.{IsNamedImage}
+use Rattle.report.specs.Events.{summary_text}
+use Rattle.mssp_tool.specs.Run.{RunFrom, RunCause, AreRunFiles, Completes, start_from, world_from}
+use Rattle.mssp_tool.specs.Replay.{Wanting, ReplayCause}
+use Rattle.mssp_tool.specs.Unsquashed.{AreUnsquashed, ReplayIsUnsquashed, IsMetToTheEnd, ReportIsUnsquashed}
+use Rattle.mssp_tool.proofs.Exact.{unready_ran, unready_budget}
+
+-- ---- the number of slaves that a command has
+
+pub some_run : (o : Option ReadCommand) (r : RunCommand) → option_map shown o ≡ Some (Run r) → 0 < r.slaves
+some_run None r is = absurd (cc)
+some_run (Some (ReadShow image)) r is = absurd (cc)
+some_run (Some (ReadReplay x)) r is = absurd (cc)
+some_run (Some (ReadProfile x)) r is = absurd (cc)
+some_run (Some (ReadDistill x)) r is = absurd (cc)
+some_run (Some (ReadCheck x)) r is = absurd (cc)
+some_run (Some (ReadRun x)) r is = let same : shown_run x ≡ r = cc in subst (λ (y : RunCommand). 0 < y.slaves) same x.some
+
+pub some_replay : (o : Option ReadCommand) (r : ReplayCommand) → option_map shown o ≡ Some (Replay r) → 0 < r.slaves
+some_replay None r is = absurd (cc)
+some_replay (Some (ReadShow image)) r is = absurd (cc)
+some_replay (Some (ReadRun x)) r is = absurd (cc)
+some_replay (Some (ReadProfile x)) r is = absurd (cc)
+some_replay (Some (ReadDistill x)) r is = absurd (cc)
+some_replay (Some (ReadCheck x)) r is = absurd (cc)
+some_replay (Some (ReadReplay x)) r is = let same : shown_replay x ≡ r = cc in subst (λ (y : ReplayCommand). 0 < y.slaves) same x.some
+
+-- ---- a replay
+
+-- effect k is what an event did to the model before it
+effect_is : (w : World) (es : List Event) (m : Model) (k : ℕ) (effect : Effect) → slice_get (effects w es m) k ≡ Some effect → (e : Event) × ((happens w (run w (take k es) m) e).0 ≡ effect)
+effect_is w [] m k effect is = absurd (cc)
+effect_is w (e ∷ es) m zero effect is = (e, cc)
+effect_is w (e ∷ es) m (suc k) effect is = effect_is w es (happens w m e).1 k effect is
+
+pub are_unsquashed : (start : State) (image : Distilled) (slaves : ℕ) → IsImage image → 0 < slaves → (es : List Event) → AreUnsquashed start image (world start image slaves) es
+are_unsquashed start image slaves ok some es k effect is = λ fits n meets room.
+    let s = setting start image slaves n in
+    let w = world start image slaves in
+    let at = is_setting start image slaves ok n some fits meets in
+    let before = take k es in
+    let h = effect_is w es (fresh w) k effect is in
+    subst IsSafe h.1
+    (happens_safe s at (run w before (fresh w)) h.0 room (run_keeps w at.known before (fresh w) (fresh_holds w)) (run_tracks s at before (fresh w) (fresh_holds w) (fresh_tracks s at)))
+
+module _ (store : Reads) (r : ReplayCommand) (out : Puts) (some : 0 < r.slaves) where
+  wanting_done : Wanting store r Done → ⊥
+  wanting_done (inl (inl h)) = h
+  wanting_done (inl (inr (p, e, h, refused, is))) = cc
+  wanting_done (inr (inl (p, h, inl x))) = x
+  wanting_done (inr (inl (p, h, inr (bytes, e, read, refused, is)))) = cc
+  wanting_done (inr (inr (inl (p, image, h, hi, inl x)))) = x
+  wanting_done (inr (inr (inl (p, image, h, hi, inr (bytes, e, read, refused, is))))) = cc
+  wanting_done (inr (inr (inr (inl (p, image, list, h, hi, he, (name, named, x)))))) = x
+  wanting_done (inr (inr (inr (inr is)))) = cc
+
+  pub replay_is_unsquashed : ReplayCause store r out Done → ReplayIsUnsquashed store.told r out
+  replay_is_unsquashed (inl h) = absurd (wanting_done h.0)
+  replay_is_unsquashed (inr (p, i, image, list, files, put, of_run)) =
+      record {
+        p = p;
+        i = i;
+        image = image;
+        list = list;
+        files = files;
+        put = put;
+        unsquashed = are_unsquashed (start_from p i) image r.slaves files.has_image.1.is_image some (written_out list);
+      }
+
+-- ---- the report of a run
+
+abbrev IsClean : Counts → Type 0
+IsClean c = (c.squashed ≡ 0) × (c.dropped ≡ 0)
+
+-- a serial step squashes nothing
+step_clean : (w : World) (m : Model) → IsClean m.counts → IsClean (happens w m SerialEvent).1.counts
+unfolding happens
+step_clean w m h = go (is_over m.committed)
+  where
+    told : (o : Option End) → IsClean (counted_by SerialEvent (told_end o) m.counts)
+    told None = h
+    told (Some end) = h
+
+    by : (k : Mode) → IsClean (counted_by SerialEvent (serial_step w m k).0 m.counts)
+    by (Serial debt) = told (step w m.committed).env.over
+    by Speculating = h
+
+    go : (b : Bool) → IsClean (counted SerialEvent m.counts (cond b (Idle, m) (going_on w m SerialEvent))).1.counts
+    go true = h
+    go false = by m.mode
+
+alone_clean : (w : World) (k : ℕ) → IsClean (after w alone k).counts
+unfolding after
+alone_clean w zero = (refl, refl)
+alone_clean w (suc k) = step_clean w (after w alone k) (alone_clean w k)
+
+module _ (store : Reads) (left : Option Files) (r : RunCommand) (name : List ℕ) (out : Puts) (some : 0 < r.slaves) where
+  -- without an image it goes on by serial steps alone
+  run_clean : (named : Option (List ℕ)) (image : Distilled) (start : State) (k : ℕ) → IsNamedImage store.told named image → IsMetToTheEnd named start image
+      → IsClean (after (world start image r.slaves) (events_of (schedule_of named) r.slaves) k).counts
+  run_clean None image start k has met = alone_clean (world start image r.slaves) k
+  run_clean (Some file) image start k (bytes, h) (fits, (n, meets, ends)) = clean start image r.slaves n h.is_image some fits meets ends (events_of Rounds r.slaves) k
+
+  module _ (p i : List ℕ) (image : Distilled) (files : AreRunFiles store.told r p image i) where
+    told : (k : ℕ) → Written store.told left name (summary_text (after (world_from p i image r.slaves) (events_of (schedule_of r.image) r.slaves) k)) → ReportIsUnsquashed store.told left r name
+    told k written =
+        record {
+          p = p;
+          i = i;
+          image = image;
+          files = files;
+          last = after (world_from p i image r.slaves) (events_of (schedule_of r.image) r.slaves) k;
+          written = written;
+          unsquashed = run_clean r.image image (start_from p i) k files.has_image;
+        }
+
+    reports : (a : Answer) → Completes a → RunFrom (Some name) r (world_from p i image r.slaves) store left out a → ReportIsUnsquashed store.told left r name
+    reports (Ran pc end) done (k, stop, (got, written, is)) = told k written
+    reports Budget done (k, stop, (got, written, is)) = told k written
+    reports Usage done h = absurd done
+    reports Broken done h = absurd done
+    reports (Absent s) done h = absurd done
+    reports (StoreFault s) done h = absurd done
+    reports SinkFault done h = absurd done
+    reports Memory done h = absurd done
+    reports (TooLong s) done h = absurd done
+    reports (Refused e) done h = absurd done
+    reports Done done h = absurd done
+
+  pub report_is_unsquashed : r.report ≡ Some name → (a : Answer) → Completes a → RunCause store left r out a → ReportIsUnsquashed store.told left r name
+  report_is_unsquashed named (Ran pc end) done (inl h) = absurd (unready_ran store left r out pc end h.0)
+  report_is_unsquashed named Budget done (inl h) = absurd (unready_budget store left r out h.0)
+  report_is_unsquashed named Usage done (inl h) = absurd done
+  report_is_unsquashed named Broken done (inl h) = absurd done
+  report_is_unsquashed named (Absent s) done (inl h) = absurd done
+  report_is_unsquashed named (StoreFault s) done (inl h) = absurd done
+  report_is_unsquashed named SinkFault done (inl h) = absurd done
+  report_is_unsquashed named Memory done (inl h) = absurd done
+  report_is_unsquashed named (TooLong s) done (inl h) = absurd done
+  report_is_unsquashed named (Refused e) done (inl h) = absurd done
+  report_is_unsquashed named Done done (inl h) = absurd done
+  report_is_unsquashed named a done (inr (p, i, image, files, h)) =
+      reports p i image files a done (subst (λ (o : Option (List ℕ)). RunFrom o r (world_from p i image r.slaves) store left out a) named h)

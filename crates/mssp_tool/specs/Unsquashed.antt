@@ -1,0 +1,57 @@
+-- That nothing is squashed with an image that fits, as far as the run meets its list.
+use Rattle.std.specs.Prelude.{◌≡◌, ℕ, List, take, slice_get, Option, Some, None}
+use Rattle.outside.specs.Files.{Files}
+use Rattle.cells.specs.Run.{State}
+use Rattle.command_line.specs.Command.{RunCommand, ReplayCommand}
+use Rattle.speculation.specs.declared.Effect.{Effect}
+use Rattle.speculation.specs.declared.Event.{Event}
+use Rattle.speculation.specs.World.{World}
+use Rattle.speculation.specs.Engine.{Model, run, effects, fresh}
+use Rattle.squash_laws.specs.Tracks.{IsSafe}
+use Rattle.dist_image.specs.Image.{Distilled}
+use Rattle.event_list.specs.Reading.{written_out}
+use Rattle.fitting.specs.Fits.{Fits}
+use Rattle.fitting.specs.Fails.{program, Meets, Reaches}
+use Rattle.nosquash.specs.Laws.{EndsWithin}
+use Rattle.report.specs.Events.{summary_text}
+use Rattle.mssp_tool.specs.Told.{Puts, Got, Written}
+use Rattle.mssp_tool.specs.Run.{AreRunFiles, start_from, world_from}
+use Rattle.mssp_tool.specs.Replay.{AreFiles, replay_bytes}
+
+-- ---- a replay
+
+-- What an event did to this model: no task was squashed, and none was given up with a committed one. It is so where the image fits the program, the first n steps of the
+-- run meet its list, and the position that was committed before the event is a task limit before n, or the run ends within n steps
+abbrev pub IsUnsquashed : State → Distilled → Model → Effect → Type 0
+IsUnsquashed start image m effect = Fits (program start) image → (n : ℕ) → Meets start image n → Reaches start image n m.position → IsSafe effect
+
+-- of events that are given one after the other: what event k did to the model after the events before it
+abbrev pub AreUnsquashed : State → Distilled → World → List Event → Type 0
+AreUnsquashed start image w es = (k : ℕ) (effect : Effect) → slice_get (effects w es (fresh w)) k ≡ Some effect → IsUnsquashed start image (run w (take k es) (fresh w)) effect
+
+-- the files of a replay are these, its text was put, a line for what each event did, and that was unsquashed
+pub record ReplayIsUnsquashed (told : Option Files) (r : ReplayCommand) (out : Puts) : Type 0 where
+  pub p : List ℕ
+  pub i : List ℕ
+  pub image : Distilled
+  pub list : List (ℕ × Event)
+  pub files : AreFiles told r p image list i
+  pub put : Got out (replay_bytes (world_from p i image r.slaves) (written_out list))
+  pub unsquashed : AreUnsquashed (start_from p i) image (world_from p i image r.slaves) (written_out list)
+
+-- ---- the report of a run
+
+-- beside an image: it fits the program, and the run meets its list to the end. Where no image is named nothing is asked
+abbrev pub IsMetToTheEnd : Option (List ℕ) → State → Distilled → Type 0
+IsMetToTheEnd None start image = Unit {0}
+IsMetToTheEnd (Some name) start image = Fits (program start) image × ((n : ℕ) × Meets start image n × EndsWithin start n)
+
+-- the files of a run are these, the report that was written sums up this model, and it counts no squash and no task that was given up
+pub record ReportIsUnsquashed (told left : Option Files) (r : RunCommand) (name : List ℕ) : Type 0 where
+  pub p : List ℕ
+  pub i : List ℕ
+  pub image : Distilled
+  pub files : AreRunFiles told r p image i
+  pub last : Model
+  pub written : Written told left name (summary_text last)
+  pub unsquashed : IsMetToTheEnd r.image (start_from p i) image → (last.counts.squashed ≡ 0) × (last.counts.dropped ≡ 0)
