@@ -2,13 +2,9 @@
 #![tactic(auto)]
 
 #[cfg(test)]
-mod hostile_images;
+mod distilled;
 #[cfg(test)]
-mod images;
-#[cfg(test)]
-mod outside_world;
-#[cfg(test)]
-mod programs;
+mod profiles;
 #[cfg(test)]
 mod replays;
 #[cfg(test)]

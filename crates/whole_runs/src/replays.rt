@@ -1,8 +1,8 @@
 //! `replay`, over programs, images made by hand and lists of events.
 
-use crate::images::*;
-use crate::outside_world::{Fails, Files, Left, SURE, perform_over};
-use crate::programs::*;
+use run_world::images::*;
+use run_world::outside_world::{Fails, Files, Left, SURE, perform_over};
+use run_world::programs::*;
 use std::alloc::{AllocError, Global};
 use std::test::Fail;
 

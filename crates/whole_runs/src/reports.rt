@@ -1,9 +1,9 @@
 //! `run` with a report: beside images, made by hand or hostile, and without one.
 
-use crate::hostile_images::*;
-use crate::images::*;
-use crate::outside_world::{Fails, Files, Left, SURE, perform_over};
-use crate::programs::*;
+use run_world::hostile_images::*;
+use run_world::images::*;
+use run_world::outside_world::{Fails, Files, Left, SURE, perform_over};
+use run_world::programs::*;
 use std::alloc::{AllocError, Global};
 use std::test::Fail;
 

@@ -1,8 +1,8 @@
 //! `show`, over images that are accepted and refused.
 
-use crate::images::*;
-use crate::outside_world::{Fails, SURE, perform};
-use crate::programs::bytes_of;
+use run_world::images::*;
+use run_world::outside_world::{Fails, SURE, perform};
+use run_world::programs::bytes_of;
 use std::alloc::Global;
 use std::test::Fail;
 

@@ -1,7 +1,7 @@
 //! Commands whose bytes and statuses are known from outside.
 
-use crate::outside_world::{Fails, SURE, perform};
-use crate::programs::*;
+use run_world::outside_world::{Fails, SURE, perform};
+use run_world::programs::*;
 use std::test::Fail;
 
 const RUN: &[&str] = &["run", "p"];

@@ -54,6 +54,13 @@ pub static COMPARE_LOOP: [u32; 10] = [
     0x05D00893, 0x00000073,
 ];
 
+/// Reads a byte of input; where it isn't 0 it exits with 5, and else it counts down from ten and exits
+/// with 0.
+pub static INPUT_DECIDES: [u32; 15] = [
+    0x00000513, 0x000205B7, 0x00100613, 0x03F00893, 0x00000073, 0x00058303, 0x00A00293, 0x00031A63,
+    0xFFF28293, 0xFE029CE3, 0x00000513, 0x0080006F, 0x00500513, 0x05D00893, 0x00000073,
+];
+
 /// Adds 1 to the word at 0x00020000, without end.
 pub static COUNT_WITHOUT_END: [u32; 5] = [
     0x00020337, 0x00032383, 0x00138393, 0x00732023, 0xFF5FF06F,
