@@ -28,6 +28,11 @@ before, and the lines that come are counted: one for each event, and eight of th
 that a report sums up, and in rounds beside the image, with 1, 4 and 16 slaves.  It prints
 millions of committed instructions per second, where the report says how many were
 committed, and of how many of them tasks took care.
+
+--distilling profiles the two long programs, distils them, and checks their runs, and
+prints the seconds of each command beside those of `run`.  Then it distils programs without
+a branch, at whose last instruction a register is read that none of the others touches: as
+many rounds of masks as there are instructions.
 """
 import argparse
 import hashlib
@@ -49,6 +54,9 @@ WINDOW = (2_000_000, 3_000_000)
 # adds 1 to x5 and jumps back to that
 LOOP = (0x00128293, 0xFFDFF06F)
 EVENTS = 2_000_000
+
+# x5 = x6, and at the end of a line of these x10 = x9 and an exit
+STEP, LAST = 0x00030293, (0x00048513, 0x05D00893, 0x00000073)
 ROUND = ("restart", "serial", "master", "master", "master", "master",
          "slave 0", "slave 1", "slave 2", "slave 3", "commit")
 
@@ -170,11 +178,11 @@ def numbers(*all_numbers):
     return struct.pack(f"<{len(all_numbers)}I", *all_numbers)
 
 
-def loop_program():
-    """The ELF file that loads the loop at 0x00010000 and starts there."""
-    size = 4 * len(LOOP)
+def program_of(words):
+    """The ELF file that loads these words at 0x00010000 and starts there."""
+    size = 4 * len(words)
     header = numbers(0x464C457F, 0x00010101, 0, 0, 0x00F30002, 1, 0x10000, 52, 0, 0, 0x00200034, 1, 0)
-    return header + numbers(1, 84, 0x10000, 0x10000, size, size, 5, 4) + numbers(*LOOP)
+    return header + numbers(1, 84, 0x10000, 0x10000, size, size, 5, 4) + numbers(*words)
 
 
 def loop_image():
@@ -206,7 +214,7 @@ def show_replays(binary, runs):
     print(f"millions of events per second, best of {runs} runs (load {os.getloadavg()[0]:.1f})")
     with tempfile.TemporaryDirectory() as folder:
         program, image, events = (os.path.join(folder, name) for name in ("elf", "image", "events"))
-        Path(program).write_bytes(loop_program())
+        Path(program).write_bytes(program_of(LOOP))
         Path(image).write_bytes(loop_image())
         for name, (count, text) in lists.items():
             Path(events).write_text(text)
@@ -235,7 +243,7 @@ def show_rounds(binary, runs):
     print(f"{'':24}{'instructions':>14}{'by tasks':>14}{'speed':>14}")
     with tempfile.TemporaryDirectory() as folder:
         program, image, report = (os.path.join(folder, name) for name in ("elf", "image", "report"))
-        Path(program).write_bytes(loop_program())
+        Path(program).write_bytes(program_of(LOOP))
         Path(image).write_bytes(loop_image())
         alone = [binary, "run", program, "--budget", str(EVENTS)]
         least = min(seconds_of(alone, 120) for _ in range(runs))
@@ -249,6 +257,30 @@ def show_rounds(binary, runs):
             print(f"{name:24}{best[1]:14}{best[2]:14}{best[1] / best[0] / 1e6:14.2f}", flush=True)
 
 
+def show_distilling(binary, programs, runs):
+    print(f"processor seconds, best of {runs} runs (load {os.getloadavg()[0]:.1f})")
+    print(f"{'':16}" + "".join(f"{name:>14}" for name in ("run", "profile", "of run", "distill", "check", "of run")))
+    with tempfile.TemporaryDirectory() as folder:
+        file, profile, image = (os.path.join(folder, name) for name in ("elf", "profile", "image"))
+
+        def least(words, status=0):
+            return min(seconds_of([binary, *words], status) for _ in range(runs))
+
+        for program in programs:
+            run = least(["run", program.file], program.status)
+            profiled = least(["profile", program.file, profile])
+            distilled = least(["distill", program.file, profile, image, "--rare", "0"])
+            verdict = subprocess.run([binary, "check", program.file, image], stdout=subprocess.PIPE)
+            checked = least(["check", program.file, image], verdict.returncode)
+            print(f"{program.name:16}{run:14.2f}{profiled:14.2f}{profiled / run:14.1f}{distilled:14.3f}"
+                  f"{checked:14.2f}{checked / run:14.1f}  {verdict.stdout.decode().strip()}", flush=True)
+        for count in (500, 1000, 2000):
+            Path(file).write_bytes(program_of([STEP] * count + [*LAST]))
+            subprocess.run([binary, "profile", file, profile], check=True)
+            distilled = least(["distill", file, profile, image])
+            print(f"{f'line of {count}':16}{'':42}{distilled:14.3f}", flush=True)
+
+
 def main():
     parser = argparse.ArgumentParser(
         description=__doc__, formatter_class=argparse.RawDescriptionHelpFormatter)
@@ -258,6 +290,8 @@ def main():
     parser.add_argument("--callgrind", action="store_true", help="count host instructions too")
     parser.add_argument("--replay", action="store_true", help="time replays alone")
     parser.add_argument("--rounds", action="store_true", help="time runs beside an image alone")
+    parser.add_argument("--distilling", action="store_true",
+                        help="time profiles, distilling and checks alone")
     words = parser.parse_args()
     if words.runs < 1:
         parser.error("--runs has to be at least 1")
@@ -268,6 +302,8 @@ def main():
     if words.rounds:
         return show_rounds(os.path.abspath(words.binary), words.runs)
     programs = [Program(name) for name in PROGRAMS]
+    if words.distilling:
+        return show_distilling(os.path.abspath(words.binary), programs, words.runs)
     for program in programs:
         if not program.is_counted():
             sys.exit(f"bench.py: {program.file} isn't the file whose instructions were counted; "

@@ -11,6 +11,10 @@
 # its budget mssp has to end in the same way; with one less, with status 120.  This part is
 # left out for a program that isn't the counted one, by expected/SHA256SUMS.
 #
+# Each case is also profiled, distilled with nothing rare cut, shown, checked, and run beside its
+# image: with the same answer, and where the check says that the run meets what the image assumes,
+# with no task squashed or dropped.
+#
 # Cases with a line on standard error end by a trap, which is a signal under Linux, so
 # --qemu leaves them out.
 #
@@ -125,7 +129,32 @@ speculates() {
   fi
 }
 
+# the case NAME is profiled, distilled, shown and checked, and answers the same beside its image
+distils() {
+  local program=bin/${1%%-*}.elf input=input/$1.in words=() verdict
+  [ -f "$input" ] && words+=(--input "$input")
+  if ! "$binary" profile "$program" "$room/profile" "${words[@]}" </dev/null ||
+    ! "$binary" distill "$program" "$room/profile" "$room/image" --rare 0 </dev/null ||
+    ! "$binary" show "$room/image" </dev/null >"$room/shown"; then
+    echo "FAILED $1: no image of it"
+    return 1
+  fi
+  "$binary" check "$program" "$room/image" "${words[@]}" </dev/null >"$room/verdict"
+  verdict=$?
+  "$binary" run "$program" --image "$room/image" --report "$room/report" "${words[@]}" >"$room/out" 2>"$room/err" </dev/null
+  status=$?
+  as_expected "$1" ' beside its image' || return 1
+  if [ $verdict -gt 1 ] || { [ $verdict = 0 ] && ! grep -q '^squashed 0$' "$room/report"; } ||
+    { [ $verdict = 0 ] && ! grep -q '^dropped 0$' "$room/report"; }; then
+    echo "FAILED $1: $(<"$room/verdict"), and the report: $(tr '\n' ' ' <"$room/report")"
+    return 1
+  fi
+}
+
 if [ -n "$binary" ]; then
+  for file in expected/*.status; do
+    if distils "$(basename "$file" .status)"; then passed=$((passed + 1)); else failed=$((failed + 1)); fi
+  done
   for file in speculation/*.img; do
     if speculates "$(basename "$file" .img)"; then passed=$((passed + 1)); else failed=$((failed + 1)); fi
   done
