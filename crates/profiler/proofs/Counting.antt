@@ -47,7 +47,7 @@ module _ {M : Type 0} {d : Ghosts M} (at : M → ℕ → ℕ) (start : State) wh
   }
 
   module _ (k : ℕ) (m : Machine M d) (t : CodeTally M) (counted : IsCounted at start k m t) (program : ℕ → ℕ) (words : program ≡ start.arch.mem) where
-    pub room : k < 2 ^ 64 - 1 → All HasRoom (values t.rows)
+    pub room : k < 2 ^ 64 - 1 → All HasRoom (values t.table.rows)
     room small = subst (All HasRoom) (sym (ap (λ (x : Kept). x.rows) counted.rows)) (has_room start k small)
 
     -- what is kept after the step

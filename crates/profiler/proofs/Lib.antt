@@ -1,5 +1,5 @@
 pub mod Entries
-pub mod Filled
+pub mod Results
 pub mod Inserted
 pub mod ReadBack
 pub mod Counting

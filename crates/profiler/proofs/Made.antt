@@ -25,11 +25,11 @@ same_profile a b c d xs ys e f g = λ i. record { steps = e i; ended = f i; rows
 
 module _ {M : Type 0} {d : Ghosts M} (at : M → ℕ → ℕ) (start : State) (n : ℕ) (m : Machine M d) (t : CodeTally M) (counted : IsCounted at start n m t) where
   abbrev pub made : Profiled
-  made = profiled m.position (is_end m.end) t.rows
+  made = profiled m.position (is_end m.end) t.table.rows
 
   made_is : profile_of start n ≡ made
   made_is =
-      same_profile n m.position (is_over (state_at start n)) (is_end m.end) (kept start n).rows (values t.rows)
+      same_profile n m.position (is_over (state_at start n)) (is_end m.end) (kept start n).rows (values t.table.rows)
       (sym counted.position) (sym (ap is_over counted.state)) (sym (ap (λ (x : Kept). x.rows) counted.rows))
 
   narrow : IsWide (kept start n).rows → ⊥

@@ -1,5 +1,7 @@
 -- Bytes that are read back one after another.
-use Rattle.std.proofs.Common.{◌≡◌, ℕ, zero, suc, ◌+◌, ◌-◌, ◌%◌, ◌^◌, ◌<◌, ◌≤◌, ◌==◌, Bool, true, false, cond, All, inl, inr, List, [], ◌∷◌, length, refl, sym, ap, ◌∙◌, subst, arith}
+use Rattle.std.proofs.Common.{◌≡◌, ℕ, zero, suc, ◌+◌, ◌-◌, ◌%◌, ◌^◌, ◌<◌, ◌≤◌, ◌==◌, Bool, true, false, ◌||◌, cond, All, inl, inr, List, [], ◌∷◌, length, refl, sym, ap, ◌∙◌, subst, arith}
+use Rattle.std.specs.Prelude.{nat_eq}
+use Rattle.std.proofs.lemmas.Bool.{eq-eqb, or_left, or_right}
 use Rattle.std.proofs.lemmas.List.Elements.{All-head, All-tail, All-cons}
 use Rattle.std.proofs.lemmas.List.Sums.{sum_by-cons}
 use Rattle.profile_data.specs.Profile.{Tally, target_count}
@@ -109,22 +111,6 @@ unfolding places
 nothing w zero a ts e = refl
 nothing w (suc n) a ts e = absurd (omega arith)
 
--- bytes without a mark
-pub unmarked : (w : ℕ → ℕ) (n a : ℕ) (ts : List Tally) → n ≤ 4 → ((k : ℕ) → k < 4 → w ((a + k) % 2 ^ 32) ≡ 0) → ts ≡ read_back w (places n a) ts
-unfolding places
-unmarked w n a ts le none =
-    let start : a + 0 ≡ a = omega arith in
-    go n 0 (let e : n + 0 ≤ 4 = omega arith in e) ∙ ap (λ b. read_back w (places n b) ts) start
-  where
-    go : (m k : ℕ) → m + k ≤ 4 → ts ≡ read_back w (places m (a + k)) ts
-    go zero k le = refl
-    go (suc m) k le =
-        let here : w ((a + k) % 2 ^ 32) ≡ 0 = none k (omega arith) in
-        let next : a + (k + 1) ≡ a + k + 1 = omega arith in
-        go m (k + 1) (omega arith)
-        ∙ ap (λ b. read_back w (places m b) ts) next
-        ∙ sym (ap (λ v. read_back w (places m (a + k + 1)) (marked v ts)) here)
-
 -- a mark that is noted once more
 pub marked_again : (w : ℕ) (ts : List Tally) → marked w (marked w ts) ≡ marked w ts
 marked_again zero ts = refl
@@ -138,3 +124,23 @@ marked_again (suc pc) ts = again ts
             → updated pc as_read (cond b (as_read t ∷ ts) (t ∷ updated pc as_read ts)) ≡ cond b (as_read t ∷ ts) (t ∷ updated pc as_read ts)
         go true e rest = ap (λ c. cond c (as_read (as_read t) ∷ ts) (as_read t ∷ updated pc as_read ts)) e
         go false e rest = ap (λ c. cond c (as_read t ∷ updated pc as_read ts) (t ∷ updated pc as_read (updated pc as_read ts))) e ∙ ap (λ us. t ∷ us) rest
+
+-- bytes that all have one mark, of which there are some
+pub all_alike : (w : ℕ → ℕ) (mark n a : ℕ) (ts : List Tally) → 0 < n → ((b : ℕ) → among (places n a) b ≡ true → w b ≡ mark) → marked mark ts ≡ read_back w (places n a) ts
+unfolding places
+all_alike w mark zero a ts some alike = absurd (omega arith)
+all_alike w mark (suc n) a ts some alike =
+    let here : w (a % 2 ^ 32) ≡ mark = first n a alike in
+    ap (λ m. marked m ts) (sym here)
+    ∙ sym (others n (a + 1) (rest n a alike) (marked (w (a % 2 ^ 32)) ts) (ap (λ m. marked mark (marked m ts)) here ∙ marked_again mark ts ∙ ap (λ m. marked m ts) (sym here)))
+  where
+    first : (n a : ℕ) → ((b : ℕ) → (nat_eq (a % 2 ^ 32) b || among (places n (a + 1)) b) ≡ true → w b ≡ mark) → w (a % 2 ^ 32) ≡ mark
+    first n a alike = alike (a % 2 ^ 32) (or_left (nat_eq (a % 2 ^ 32) (a % 2 ^ 32)) (among (places n (a + 1)) (a % 2 ^ 32)) (eq-eqb (a % 2 ^ 32) (a % 2 ^ 32) refl))
+
+    rest : (n a : ℕ) → ((b : ℕ) → (nat_eq (a % 2 ^ 32) b || among (places n (a + 1)) b) ≡ true → w b ≡ mark) → (b : ℕ) → among (places n (a + 1)) b ≡ true → w b ≡ mark
+    rest n a alike b there = alike b (or_right (nat_eq (a % 2 ^ 32) b) (among (places n (a + 1)) b) there)
+
+    others : (n a : ℕ) → ((b : ℕ) → among (places n a) b ≡ true → w b ≡ mark) → (us : List Tally) → marked mark us ≡ us → read_back w (places n a) us ≡ us
+    others zero a alike us noted = refl
+    others (suc n) a alike us noted =
+        ap (read_back w (places n (a + 1))) (ap (λ m. marked m us) (first n a alike) ∙ noted) ∙ others n (a + 1) (rest n a alike) us noted

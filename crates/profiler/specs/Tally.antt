@@ -5,14 +5,14 @@ use Rattle.profile_data.specs.Profile.{target_count}
 use Rattle.profile_data.specs.Keyed.{IsKeyed}
 use Rattle.profile_laws.specs.Profiles.{IsWide}
 use Rattle.profile_laws.specs.Tally.{Kept}
+use Rattle.memory_access.specs.Shadows.{mark_at}
 use Rattle.profiler.specs.declared.tally.Tally.{Tally as CodeTally}
-use Rattle.profiler.specs.Marks.{marks_of}
 
 abbrev pub kept_of : {M : Type 0} → (M → ℕ → ℕ) → CodeTally M → Kept
-kept_of at t = record { rows = values t.rows; writers = marks_of at t.marks }
+kept_of at t = record { rows = values t.table.rows; writers = mark_at at t.writers }
 
 -- each row is under its own address, the targets are counted, and neither is too many
 pub record IsTally {M : Type 0} (t : CodeTally M) : Type 0 where
-  pub keyed : IsKeyed t.rows
-  pub count : t.targets ≡ target_count (values t.rows)
-  pub few : IsWide (values t.rows) → ⊥
+  pub keyed : IsKeyed t.table.rows
+  pub count : t.targets ≡ target_count (values t.table.rows)
+  pub few : IsWide (values t.table.rows) → ⊥

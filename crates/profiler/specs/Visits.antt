@@ -1,11 +1,8 @@
 -- A position in the code, as the tally sees it.
 use Rattle.std.specs.Prelude.{ℕ, Bool, if◌then◌else◌, Option, Some, None}
-use Rattle.profile_laws.specs.Tally.{Span, Visit}
-use Rattle.profiler.specs.declared.visit.Span.{Span as CodeSpan}
+use Rattle.profile_laws.specs.Tally.{Visit}
+use Rattle.memory_access.specs.Spans.{span_of}
 use Rattle.profiler.specs.declared.visit.Visit.{Visit as CodeVisit}
-
-abbrev pub span_of : CodeSpan → Span
-span_of s = record { count = s.count; from = s.from }
 
 -- with the target that a jump by a register has then
 abbrev pub visit_of : CodeVisit → Option ℕ → Visit

@@ -6,9 +6,9 @@
 #![tactic(auto)]
 
 mod error;
-mod marks;
 mod profiling;
 mod rows;
+mod table;
 mod tally;
 mod visit;
 

@@ -43,7 +43,7 @@ fn step<M: Memory>(
     requires running { IsNone machine.old.end }
     requires position { machine.old.position < 2 ^ 64 - 1 }
     requires tally { IsTally tally.old }
-    requires room { EachHasRoom (values tally.old.rows) }
+    requires room { EachHasRoom (values tally.old.table.rows) }
     ensures program { M.at program.new ≡ M.at program.old }
     ensures state { OnOk result (state_of M.at machine.new ≡ next_state (state_of M.at machine.old)) }
     ensures position { OnOk result (machine.new.position ≡ machine.old.position + 1) }
@@ -101,7 +101,7 @@ fn profile_on<M: Memory>(
     let mut program = machine.arch.mem.snapshot(alloc)?;
     let mut tally = Tally::new(alloc)?;
     count_all(alloc, &mut machine, &mut program, &mut tally, budget)?;
-    Ok(Profile::new(machine.position, machine.end.is_some(), tally.rows))
+    Ok(Profile::new(machine.position, machine.end.is_some(), tally.table.rows))
 }
 
 /// The profile of a program's run with an input, over as many steps as the budget has, at most

@@ -1,11 +1,11 @@
 //! The rows of a profile while it is made.
 
-ghost use Rattle.std.specs.Prelude.{◌≡◌, ◌≤◌, ◌+◌, ◌++◌, ◌∷◌, [], false, length, unwrap_or, IfOk, IfErr, OnOk, Some, None, MatchOption, is_some};
+ghost use Rattle.std.specs.Prelude.{◌≡◌, ℕ, ◌≤◌, ◌+◌, ◌++◌, ◌∷◌, [], false, length, IfOk, IfErr, OnOk, is_some, slice_get};
 ghost use Rattle.std.specs.List.Sorted.{IsStrictlyIncreasing};
 ghost use Rattle.indexmap.specs.IndexMap.{values};
 ghost use Rattle.profile_data.specs.Profile.{target_count, row_at};
 ghost use Rattle.profile_data.specs.Keyed.{IsKeyed};
-ghost use Rattle.profile_laws.specs.Tally.{updated, as_read, marked, counted, placed, with_target, fresh, visited};
+ghost use Rattle.profile_laws.specs.Tally.{updated, as_read, counted, placed, with_target, fresh};
 ghost use Rattle.profiler.specs.Visits.{visit_of};
 ghost use Rattle.profiler.specs.declared.error.ProfilingErr.TheVariants.{Memory};
 ghost use Rattle.profiler.specs.Rows.{HasRoom, EachHasRoom};
@@ -22,42 +22,19 @@ fn set_read(row: &mut Row)
     row.read = true;
 }
 
-/// Notes that what the store at an address put was read.
-fn mark_row(rows: &mut IndexMap<u32, Row>, pc: u32)
+/// Notes that what the store of a row put was read.
+pub(crate) fn mark_row(rows: &mut IndexMap<u32, Row>, at: usize)
     requires { IsKeyed rows.old }
-    ensures rows { values rows.new ≡ updated pc as_read (values rows.old) }
+    ensures rows { (pc : ℕ) → slice_get (values rows.old) at ≡ row_at (values rows.old) pc → values rows.new ≡ updated pc as_read (values rows.old) }
     ensures keyed { IsKeyed rows.new }
 {
-    if let Some(row) = rows.get_mut(&pc) {
+    if let Some(row) = rows.get_index_mut(at) {
         set_read(row);
     }
 }
 
-/// Notes that a byte with this mark was read: 1 more than the address of a store, or 0.
-fn mark(rows: &mut IndexMap<u32, Row>, mark: u32)
-    requires { IsKeyed rows.old }
-    ensures rows { values rows.new ≡ marked mark (values rows.old) }
-    ensures keyed { IsKeyed rows.new }
-{
-    if mark != 0 {
-        mark_row(rows, mark - 1);
-    }
-}
-
-/// Notes that a byte with this mark was read, where the one before had another.
-pub(crate) fn mark_other(rows: &mut IndexMap<u32, Row>, noted: u32, found: u32)
-    requires keyed { IsKeyed rows.old }
-    requires noted { marked noted (values rows.old) ≡ values rows.old }
-    ensures rows { values rows.new ≡ marked found (values rows.old) }
-    ensures noted { marked found (values rows.new) ≡ values rows.new }
-    ensures keyed { IsKeyed rows.new }
-{
-    if found != noted {
-        mark(rows, found);
-    }
-}
-
 /// Puts a number in its place, unless it is there, and answers how many numbers that added.
+#[inline(never)]
 fn place(targets: &mut Vec<u32>, to: u32) -> Result<usize, AllocError>
     requires { IsStrictlyIncreasing targets.old.items }
     ensures placed { OnOk result (targets.new.items ≡ placed to targets.old.items) }
@@ -73,6 +50,7 @@ fn place(targets: &mut Vec<u32>, to: u32) -> Result<usize, AllocError>
     }
 }
 
+#[inline(always)]
 fn place_target(targets: &mut Vec<u32>, target: Option<u32>) -> Result<usize, AllocError>
     requires { IsStrictlyIncreasing targets.old.items }
     ensures placed { OnOk result (targets.new.items ≡ with_target target targets.old.items) }
@@ -86,6 +64,7 @@ fn place_target(targets: &mut Vec<u32>, target: Option<u32>) -> Result<usize, Al
 }
 
 /// Counts a position in its row, and answers how many targets that added.
+#[inline(always)]
 fn count_in(row: &mut Row, visit: &Visit, target: Option<u32>) -> Result<usize, AllocError>
     requires { HasRoom row.old }
     ensures row { OnOk result (row.new ≡ counted (visit_of visit.now target) row.old) }
@@ -99,25 +78,24 @@ fn count_in(row: &mut Row, visit: &Visit, target: Option<u32>) -> Result<usize, 
     Ok(added)
 }
 
-/// Counts a position in the row of its address, if there is one, and answers how many targets that
-/// added.
-fn count_known(
+/// Counts a position in the row at an index, and answers how many targets that added.
+#[inline(always)]
+pub(crate) fn count_row(
     rows: &mut IndexMap<u32, Row>,
+    at: usize,
     visit: &Visit,
     target: Option<u32>,
-) -> Result<Option<usize>, AllocError>
+) -> Result<usize, AllocError>
     requires keyed { IsKeyed rows.old }
     requires room { EachHasRoom (values rows.old) }
-    ensures rows { OnOk result (values rows.new ≡ updated visit.now.pc (counted (visit_of visit.now target)) (values rows.old)) }
+    ensures rows { OnOk result ((pc : ℕ) → slice_get (values rows.old) at ≡ row_at (values rows.old) pc → values rows.new ≡ updated pc (counted (visit_of visit.now target)) (values rows.old)) }
     ensures keyed { OnOk result (IsKeyed rows.new) }
-    ensures stays { IfOk result (λ o. is_some o ≡ false → values rows.new ≡ values rows.old) }
-    ensures found { IfOk result (λ o. is_some o ≡ is_some (row_at (values rows.old) visit.now.pc)) }
-    ensures few { IfOk result (λ o. unwrap_or o 0 ≤ 1) }
-    ensures added { IfOk result (λ o. target_count (values rows.new) ≡ target_count (values rows.old) + unwrap_or o 0) }
+    ensures few { IfOk result (λ n. n ≤ 1) }
+    ensures added { IfOk result (λ n. target_count (values rows.new) ≡ target_count (values rows.old) + n) }
 {
-    match rows.get_mut(&visit.pc) {
-        Some(row) => Ok(Some(count_in(row, visit, target)?)),
-        None => Ok(None),
+    match rows.get_index_mut(at) {
+        Some(row) => count_in(row, visit, target),
+        None => Ok(0),
     }
 }
 
@@ -136,7 +114,8 @@ fn fresh(alloc: Global, pc: u32) -> Row
 }
 
 /// Counts the first position of an address, and answers how many targets that added.
-fn count_new(
+#[inline(never)]
+pub(crate) fn count_new(
     alloc: Global,
     rows: &mut IndexMap<u32, Row>,
     visit: &Visit,
@@ -154,25 +133,4 @@ fn count_new(
     let added = count_in(&mut row, visit, target)?;
     rows.insert(visit.pc, row)?;
     Ok(added)
-}
-
-/// Counts a position in the row of its address, and answers how many targets that added.
-pub(crate) fn count(
-    alloc: Global,
-    rows: &mut IndexMap<u32, Row>,
-    visit: &Visit,
-    target: Option<u32>,
-) -> Result<usize, ProfilingErr>
-    requires keyed { IsKeyed rows.old }
-    requires room { EachHasRoom (values rows.old) }
-    ensures rows { OnOk result (values rows.new ≡ visited (visit_of visit.now target) (values rows.old)) }
-    ensures keyed { OnOk result (IsKeyed rows.new) }
-    ensures few { IfOk result (λ n. n ≤ 1) }
-    ensures added { IfOk result (λ n. target_count (values rows.new) ≡ target_count (values rows.old) + n) }
-    ensures err { IfErr result (λ e. e ≡ Memory) }
-{
-    match count_known(rows, visit, target)? {
-        Some(added) => Ok(added),
-        None => count_new(alloc, rows, visit, target),
-    }
 }

@@ -1,23 +1,22 @@
 //! What is kept of a run while it is profiled: its rows so far, and which store wrote each byte last.
 
-ghost use Rattle.std.specs.Prelude.{◌≡◌, ℕ, ◌+◌, ◌-◌, ◌≤◌, ◌%◌, ◌⊎◌, OnOk, IfOk, IfErr, if◌then◌else◌};
+ghost use Rattle.std.specs.Prelude.{◌≡◌, ℕ, ◌-◌, ◌<◌, ◌^◌, OnOk, IfOk, IfErr, if◌then◌else◌};
 ghost use Rattle.indexmap.specs.IndexMap.{values};
 ghost use Rattle.profile_data.specs.Keyed.{IsKeyed};
 ghost use Rattle.fitting.specs.Claims.{among};
 ghost use Rattle.profile_laws.specs.Profiles.{IsWide};
 ghost use Rattle.profile_laws.specs.Tally.{bytes_in, read_back, nothing_kept, after_visit, rows_after, visited};
+ghost use Rattle.memory_access.specs.Spans.{span_of};
+ghost use Rattle.memory_access.specs.Shadows.{mark_at};
 ghost use Rattle.profiler.specs.declared.error.ProfilingErr.TheVariants.{Wide, Memory};
-ghost use Rattle.profiler.specs.Visits.{span_of, visit_of};
-ghost use Rattle.profiler.specs.Marks.{marks_of};
+ghost use Rattle.profiler.specs.Visits.{visit_of};
 ghost use Rattle.profiler.specs.Rows.{EachHasRoom};
 ghost use Rattle.profiler.specs.Tally.{kept_of, IsTally};
 
 use crate::error::ProfilingErr;
-use crate::marks::Marks;
-use crate::rows::{count, mark_other};
-use crate::visit::{Span, Visit};
-use indexmap::IndexMap;
-use profile_data::Row;
+use crate::table::Table;
+use crate::visit::Visit;
+use memory_access::{Shadow, Span};
 use rv_step::Memory;
 use std::alloc::{AllocError, Global};
 
@@ -29,44 +28,44 @@ const MOST_TARGETS: usize = 1_048_576;
 
 #[derive(Drop)]
 pub(crate) struct Tally<M: Memory> {
-    pub rows: IndexMap<u32, Row>,
+    pub table: Table,
     /// The number of targets in all rows.
     pub targets: usize,
     /// Of each byte 1 more than the address of the store that wrote it last, or 0.
-    pub marks: Marks<M>,
+    pub writers: Shadow<M>,
 }
 
 /// Notes each store whose bytes are in a span, byte by byte. Bytes with the same mark, one after
 /// another, are noted once.
 #[inline(never)]
-fn read_each<M: Memory>(rows: &mut IndexMap<u32, Row>, marks: &Marks<M>, span: Span)
-    requires { IsKeyed rows.old }
-    ensures rows { values rows.new ≡ read_back (marks_of M.at marks.now) (bytes_in (span_of span)) (values rows.old) }
-    ensures keyed { IsKeyed rows.new }
+fn read_each<M: Memory>(table: &mut Table, writers: &Shadow<M>, span: Span)
+    requires { IsKeyed table.old.rows }
+    ensures rows { values table.new.rows ≡ read_back (mark_at M.at writers.now) (bytes_in (span_of span)) (values table.old.rows) }
+    ensures keyed { IsKeyed table.new.rows }
 {
     let mut noted = 0;
     for i in 0..span.count {
-        let found = marks.get(span.from.wrapping_add(i));
-        mark_other(rows, noted, found);
+        let found = writers.get(span.from.wrapping_add(i));
+        table.mark_other(noted, found);
         noted = found;
     }
 }
 
-/// Notes each store whose bytes are in a span. Most words that are read have no mark, and no look at
-/// their bytes is needed.
+/// Notes each store whose bytes are in a span. Most of them lie in one word that one store wrote, and
+/// are noted at once.
 #[inline(always)]
-fn read_back<M: Memory>(rows: &mut IndexMap<u32, Row>, marks: &Marks<M>, span: Span)
-    requires { IsKeyed rows.old }
-    ensures rows { values rows.new ≡ read_back (marks_of M.at marks.now) (bytes_in (span_of span)) (values rows.old) }
-    ensures keyed { IsKeyed rows.new }
+fn read_back<M: Memory>(table: &mut Table, writers: &Shadow<M>, span: Span)
+    requires { IsKeyed table.old.rows }
+    ensures rows { values table.new.rows ≡ read_back (mark_at M.at writers.now) (bytes_in (span_of span)) (values table.old.rows) }
+    ensures keyed { IsKeyed table.new.rows }
 {
     if span.count == 0 {
         return;
     }
-    if span.count <= 4 && marks.are_clear(span.from) {
-        return;
+    match writers.common(span) {
+        Some(mark) => table.mark(mark),
+        None => read_each(table, writers, span),
     }
-    read_each(rows, marks, span);
 }
 
 impl<M: Memory> Tally<M> {
@@ -76,13 +75,14 @@ impl<M: Memory> Tally<M> {
         ensures tally { IfOk result IsTally }
     {
         Ok(Tally {
-            rows: IndexMap::new(alloc),
+            table: Table::new(alloc),
             targets: 0,
-            marks: Marks::new(alloc)?,
+            writers: Shadow::new(alloc)?,
         })
     }
 
     /// Counts a position in its row.
+    #[inline(always)]
     fn count(
         &mut self,
         alloc: Global,
@@ -90,39 +90,22 @@ impl<M: Memory> Tally<M> {
         target: Option<u32>,
     ) -> Result<(), ProfilingErr>
         requires tally { IsTally self.old }
-        requires room { EachHasRoom (values self.old.rows) }
-        ensures rows { OnOk result (values self.new.rows ≡ visited (visit_of visit.now target) (values self.old.rows)) }
-        ensures marks { marks_of M.at self.new.marks ≡ marks_of M.at self.old.marks }
+        requires room { EachHasRoom (values self.old.table.rows) }
+        ensures rows { OnOk result (values self.new.table.rows ≡ visited (visit_of visit.now target) (values self.old.table.rows)) }
+        ensures writers { mark_at M.at self.new.writers ≡ mark_at M.at self.old.writers }
         ensures tally { OnOk result (IsTally self.new) }
-        ensures wide { IfErr result (λ e. e ≡ Wide → IsWide (visited (visit_of visit.now target) (values self.old.rows))) }
+        ensures wide { IfErr result (λ e. e ≡ Wide → IsWide (visited (visit_of visit.now target) (values self.old.table.rows))) }
     {
-        let added = count(alloc, &mut self.rows, visit, target)?;
+        let added = self.table.count(alloc, visit, target)?;
         self.targets += added;
-        if self.rows.len() > MOST_ROWS || self.targets > MOST_TARGETS {
+        if self.table.rows.len() > MOST_ROWS || self.targets > MOST_TARGETS {
             return Err(ProfilingErr::Wide);
         }
         Ok(())
     }
 
-    /// Marks the bytes that a position puts.
-    fn claim(&mut self, alloc: Global, visit: &Visit) -> Result<(), AllocError>
-        requires few { visit.now.puts.count ≤ 65536 }
-        requires claim { (visit.now.claim ≡ 0) ⊎ (visit.now.claim % 4 ≡ 1) }
-        ensures rows { self.new.rows ≡ self.old.rows }
-        ensures targets { self.new.targets ≡ self.old.targets }
-        ensures marks { OnOk result ((a : ℕ) → marks_of M.at self.new.marks a ≡ (if among (bytes_in (span_of visit.now.puts)) a then visit.now.claim else marks_of M.at self.old.marks a)) }
-    {
-        if visit.puts.count == 0 {
-            return Ok(());
-        }
-        if visit.claim == 0 {
-            self.marks.clear(alloc, visit.puts)
-        } else {
-            self.marks.put(alloc, visit.puts, visit.claim)
-        }
-    }
-
     /// Keeps what a position does, with the target that a jump by a register has there.
+    #[inline(always)]
     pub fn add(
         &mut self,
         alloc: Global,
@@ -130,9 +113,8 @@ impl<M: Memory> Tally<M> {
         target: Option<u32>,
     ) -> Result<(), ProfilingErr>
         requires tally { IsTally self.old }
-        requires room { EachHasRoom (values self.old.rows) }
-        requires few { visit.now.puts.count ≤ 65536 }
-        requires claim { (visit.now.claim ≡ 0) ⊎ (visit.now.claim % 4 ≡ 1) }
+        requires room { EachHasRoom (values self.old.table.rows) }
+        requires claim { visit.now.claim < 2 ^ 32 - 1 }
         ensures kept { OnOk result (kept_of M.at self.new ≡ after_visit (visit_of visit.now target) (kept_of M.at self.old)) }
         ensures tally { OnOk result (IsTally self.new) }
         ensures wide { IfErr result (λ e. e ≡ Wide → IsWide (rows_after (visit_of visit.now target) (kept_of M.at self.old))) }
@@ -141,10 +123,10 @@ impl<M: Memory> Tally<M> {
             count: 4,
             from: visit.pc,
         };
-        read_back(&mut self.rows, &self.marks, word);
-        read_back(&mut self.rows, &self.marks, visit.loads);
+        read_back(&mut self.table, &self.writers, word);
+        read_back(&mut self.table, &self.writers, visit.loads);
         self.count(alloc, visit, target)?;
-        self.claim(alloc, visit)?;
+        self.writers.put(alloc, visit.puts, visit.claim)?;
         Ok(())
     }
 }

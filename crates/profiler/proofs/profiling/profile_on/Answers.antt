@@ -23,7 +23,7 @@ pub new-requires-2-clause-valid : goal.new-requires-2-clause-valid
 new-requires-2-clause-valid g c =
     let start = state_of g.M.Memory.at c.in_ok-machine.machine in
     let valid = made_is_valid g.M.Memory.at start (steps start c.args.budget) c.count_all.new.machine c.count_all.new.tally c.in_ok-count_all.ensures.counted (steps_small start c.args.budget c.requires.budget) in
-    subst (λ (b : Bool). IsProfile (profiled c.count_all.new.machine.position b c.count_all.new.tally.rows)) (sym c.is_some.ensures) valid
+    subst (λ (b : Bool). IsProfile (profiled c.count_all.new.machine.position b c.count_all.new.tally.table.rows)) (sym c.is_some.ensures) valid
 
 pub returns-clause-profile : goal.returns-clause-profile
 returns-clause-profile g c =
@@ -31,4 +31,4 @@ returns-clause-profile g c =
     let begin = start_of c.args.p.now c.args.input.items in
     let is = made_is_profile g.M.Memory.at start (steps start c.args.budget) c.count_all.new.machine c.count_all.new.tally c.in_ok-count_all.ensures.counted begin c.in_ok-machine.ensures.state in
     let there = subst (λ (s : State). IsProfileOf begin (steps s c.args.budget) (made g.M.Memory.at start (steps start c.args.budget) c.count_all.new.machine c.count_all.new.tally c.in_ok-count_all.ensures.counted)) c.in_ok-machine.ensures.state is in
-    subst (λ (f : Profiled). IsProfileOf begin (steps begin c.args.budget) f) (sym (c.new-2.ensures ∙ ap (λ (b : Bool). profiled c.count_all.new.machine.position b c.count_all.new.tally.rows) c.is_some.ensures)) there
+    subst (λ (f : Profiled). IsProfileOf begin (steps begin c.args.budget) f) (sym (c.new-2.ensures ∙ ap (λ (b : Bool). profiled c.count_all.new.machine.position b c.count_all.new.tally.table.rows) c.is_some.ensures)) there

@@ -8,7 +8,7 @@ use Rattle.profile_laws.specs.Profiles.{IsWide}
 use Rattle.profile_laws.specs.Tally.{Visit, visit, after_visit, rows_after}
 use Rattle.profiler.specs.Visits.{visit_of}
 use Rattle.profiler.specs.Tally.{kept_of}
-use Rattle.profiler.proofs.Filled.{on_ok, on_any, on_err}
+use Rattle.profiler.proofs.Results.{on_ok, on_any, on_err}
 use Rattle.profiler.proofs.profiling.step.Goals as goal
 
 pub returns-clause-state : goal.returns-clause-state
