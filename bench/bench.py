@@ -32,7 +32,8 @@ committed, and of how many of them tasks took care.
 --distilling profiles the two long programs, distils them, and checks their runs, and
 prints the seconds of each command beside those of `run`.  Then it distils programs without
 a branch, at whose last instruction a register is read that none of the others touches: as
-many rounds of masks as there are instructions.
+many rounds of masks as there are instructions.  With --callgrind it counts the host
+instructions of `run`, `profile` and `check` for each guest instruction instead.
 """
 import argparse
 import hashlib
@@ -111,15 +112,21 @@ def timed(words, program):
     return used.ru_utime + used.ru_stime, resident
 
 
-def host_instructions(words):
+def host_instructions(words, status=120):
     """Counts by callgrind the instructions of a run that its budget cuts off."""
     ran = subprocess.run(
         ["valgrind", "--tool=callgrind", "--callgrind-out-file=/dev/null", *words],
         stdin=subprocess.DEVNULL, stdout=subprocess.DEVNULL, stderr=subprocess.PIPE, text=True)
     found = re.search(r"Collected : (\d+)", ran.stderr)
-    if ran.returncode != 120 or not found:
+    if ran.returncode != status or not found:
         sys.exit(f"bench.py: callgrind: status {ran.returncode} of {' '.join(words)}\n{ran.stderr}")
     return int(found.group(1))
+
+
+def for_each(words, status=120):
+    """The host instructions of a command for each guest instruction of its program."""
+    first, last = (host_instructions([*words, "--budget", str(budget)], status) for budget in WINDOW)
+    return (last - first) / (WINDOW[1] - WINDOW[0])
 
 
 def other_engines():
@@ -168,9 +175,7 @@ def show_host_instructions(engines, programs):
     for program in programs:
         counts = []
         for words in engines.values():
-            first, last = (host_instructions([*words, program.file, "--budget", str(budget)])
-                           for budget in WINDOW)
-            counts.append(f"{(last - first) / (WINDOW[1] - WINDOW[0]):14.1f}")
+            counts.append(f"{for_each([*words, program.file]):14.1f}")
         print(f"{program.name:24}" + "".join(counts), flush=True)
 
 
@@ -281,6 +286,21 @@ def show_distilling(binary, programs, runs):
             print(f"{f'line of {count}':16}{'':42}{distilled:14.3f}", flush=True)
 
 
+def show_distilling_instructions(binary, programs):
+    print("host instructions for each guest instruction, by callgrind")
+    print(f"{'':16}" + "".join(f"{name:>14}" for name in ("run", "profile", "of run", "check", "of run")))
+    with tempfile.TemporaryDirectory() as folder:
+        profile, image = (os.path.join(folder, name) for name in ("profile", "image"))
+        for program in programs:
+            subprocess.run([binary, "profile", program.file, profile], check=True)
+            subprocess.run([binary, "distill", program.file, profile, image, "--rare", "0"], check=True)
+            run = for_each([binary, "run", program.file])
+            profiled = for_each([binary, "profile", program.file, profile], 0)
+            checked = for_each([binary, "check", program.file, image], 0)
+            print(f"{program.name:16}{run:14.1f}{profiled:14.1f}{profiled / run:14.2f}"
+                  f"{checked:14.1f}{checked / run:14.2f}", flush=True)
+
+
 def main():
     parser = argparse.ArgumentParser(
         description=__doc__, formatter_class=argparse.RawDescriptionHelpFormatter)
@@ -302,6 +322,8 @@ def main():
     if words.rounds:
         return show_rounds(os.path.abspath(words.binary), words.runs)
     programs = [Program(name) for name in PROGRAMS]
+    if words.distilling and words.callgrind:
+        return show_distilling_instructions(os.path.abspath(words.binary), programs)
     if words.distilling:
         return show_distilling(os.path.abspath(words.binary), programs, words.runs)
     for program in programs:
