@@ -1,4 +1,4 @@
-pub mod Puts
+pub mod Marks
 pub mod Early
 pub mod Stops
 pub mod Sames

@@ -1,14 +1,6 @@
--- The mark of a byte, by the four bytes that are kept of it, and which stores mark what they put.
-use Rattle.std.specs.Prelude.{ℕ, ◌≡◌, ◌+◌, ◌*◌, zero, suc, cond, nat_eq, List, [], ◌∷◌}
+-- Which stores mark what they put: those that are claimed dead.
+use Rattle.std.specs.Prelude.{ℕ, zero, suc, cond, nat_eq, List, [], ◌∷◌}
 use Rattle.dist_image.specs.Image.{Premise, Dead}
-use Rattle.assume_list.specs.declared.marks.Marks.{Marks}
-
-abbrev pub marked : {M : Type 0} → (M → ℕ → ℕ) → Marks M → ℕ → ℕ
-marked at m a = at m.lowest a + 256 * (at m.low a + 256 * (at m.high a + 256 * at m.highest a))
-
--- where the lowest byte of a mark is 0, the mark is 0
-abbrev pub IsTold : {M : Type 0} → (M → ℕ → ℕ) → Marks M → Type 0
-IsTold at m = (a : ℕ) → at m.lowest a ≡ 0 → marked at m a ≡ 0
 
 -- 1 at the pc of each store of a list that is claimed dead, over what is there already
 abbrev pub with_dead : List Premise → (ℕ → ℕ) → ℕ → ℕ

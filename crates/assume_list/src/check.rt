@@ -6,8 +6,8 @@ ghost use Rattle.elf_reader.specs.Executable.{IsProgram};
 ghost use Rattle.seq_machine.specs.States.{state_of};
 ghost use Rattle.seq_machine.specs.Parts.{start_of};
 ghost use Rattle.dist_image.specs.Image.{premise, IsImage};
+ghost use Rattle.memory_access.specs.Shadows.{mark_at};
 ghost use Rattle.assume_laws.specs.Looks.{first_from};
-ghost use Rattle.assume_list.specs.Marks.{marked, IsTold};
 ghost use Rattle.assume_list.specs.Sights.{is_code, is_within};
 ghost use Rattle.assume_list.specs.Watched.{IsWatched};
 ghost use Rattle.assume_list.specs.Passes.{is_span, bound_of, or_late};
@@ -75,10 +75,9 @@ fn judge<M: Memory>(
     requires image { IsImage image.now }
     requires few { budget ≤ 10 ^ 12 }
     requires position { watch.old.machine.position ≡ 0 }
-    requires told { IsTold M.at watch.old.marks }
     requires code { watch.old.listed.code ≡ list_any is_code image.now.assumptions }
     requires within { watch.old.listed.within ≡ list_any is_within image.now.assumptions }
-    requires watched { IsWatched (state_of M.at watch.old.machine) image.now watch.old.machine.position (state_of M.at watch.old.machine) (M.at watch.old.program) (M.at watch.old.dead) (marked M.at watch.old.marks) watch.old.analysed }
+    requires watched { IsWatched (state_of M.at watch.old.machine) image.now watch.old.machine.position (state_of M.at watch.old.machine) (M.at watch.old.program) (M.at watch.old.dead) (mark_at M.at watch.old.marks) watch.old.analysed }
     ensures { IfOk result (IsVerdict (state_of M.at watch.old.machine) image.now budget) }
 {
     let span = span_of(image);

@@ -9,9 +9,9 @@ ghost use Rattle.assume_list.specs.Verdicts.{VerdictIsOne};
 
 mod check;
 mod instruction;
-mod marks;
 mod passing;
 mod pcs;
+mod read;
 mod sight;
 mod verdict;
 mod waits;

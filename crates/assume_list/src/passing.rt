@@ -11,7 +11,7 @@ ghost use Rattle.seq_machine.specs.States.{arch_at, state_of};
 ghost use Rattle.dist_image.specs.Image.{IsImage};
 ghost use Rattle.image_world.specs.World.{count_of};
 ghost use Rattle.fitting.specs.Fits.{is_anchor_pc};
-ghost use Rattle.assume_list.specs.Marks.{marked, IsTold};
+ghost use Rattle.memory_access.specs.Shadows.{mark_at};
 ghost use Rattle.assume_list.specs.Watched.{IsWatched};
 ghost use Rattle.assume_list.specs.Places.{AreKnown};
 ghost use Rattle.assume_list.specs.Shown.{IsEarly, shown};
@@ -107,10 +107,9 @@ pub(crate) fn pass<M: Memory>(
     requires few { budget ≤ 10 ^ 12 }
     requires bound { bound ≤ budget }
     requires position { watch.old.machine.position ≡ 0 }
-    requires told { IsTold M.at watch.old.marks }
     requires code { watch.old.listed.code ≡ list_any is_code image.now.assumptions }
     requires within { watch.old.listed.within ≡ list_any is_within image.now.assumptions }
-    requires watched { IsWatched (state_of M.at watch.old.machine) image.now watch.old.machine.position (state_of M.at watch.old.machine) (M.at watch.old.program) (M.at watch.old.dead) (marked M.at watch.old.marks) watch.old.analysed }
+    requires watched { IsWatched (state_of M.at watch.old.machine) image.now watch.old.machine.position (state_of M.at watch.old.machine) (M.at watch.old.program) (M.at watch.old.dead) (mark_at M.at watch.old.marks) watch.old.analysed }
     requires none { shown waits.old ≡ [] }
     requires arrivals { waits.old.arrivals ≡ 0 }
     requires early { IsEarly waits.old.due waits.old.limit (shown waits.old) }

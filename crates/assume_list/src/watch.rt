@@ -1,6 +1,6 @@
 //! The run, looked at position after position.
 
-ghost use Rattle.std.specs.Prelude.{◌≡◌, ℕ, ◌+◌, ◌-◌, ◌%◌, ◌<◌, ◌≤◌, ◌^◌, ◌++◌, ◌||◌, not, nat_eq, map, IfOk, OnOk, IsNone, if◌then◌else◌};
+ghost use Rattle.std.specs.Prelude.{◌≡◌, ℕ, ◌+◌, ◌-◌, ◌%◌, ◌<◌, ◌≤◌, ◌^◌, ◌||◌, not, nat_eq, map, IfOk, OnOk, IsNone, if◌then◌else◌};
 ghost use Rattle.std.specs.List.{list_any};
 ghost use Rattle.cells.specs.Bytes.{number};
 ghost use Rattle.cells.specs.Run.{is_end};
@@ -8,24 +8,27 @@ ghost use Rattle.rv_word.specs.Meaning.{meaning};
 ghost use Rattle.rv_run.specs.Machine.{word_at, machine};
 ghost use Rattle.rv_run.specs.Calls.{step as next_state};
 ghost use Rattle.seq_machine.specs.States.{arch_at, state_of};
-ghost use Rattle.profile_laws.specs.Tally.{places, span, loaded, stored, is_register_jump};
+ghost use Rattle.profile_laws.specs.Tally.{places, loaded, stored, is_register_jump};
 ghost use Rattle.dist_image.specs.Image.{IsImage, premise};
-ghost use Rattle.assume_laws.specs.Looks.{side, read_bytes, fails_by, first_from};
+ghost use Rattle.assume_laws.specs.Looks.{side, fails_by, first_from};
 ghost use Rattle.fitting.specs.Claims.{among};
 ghost use Rattle.fitting.specs.Fits.{is_analysed};
 ghost use Rattle.fitting.specs.Fails.{is_store};
-ghost use Rattle.assume_list.specs.Marks.{marked, IsTold, counted, dead_in};
+ghost use Rattle.memory_access.specs.Spans.{span_of};
+ghost use Rattle.memory_access.specs.Shadows.{mark_at};
+ghost use Rattle.assume_list.specs.Marks.{counted, dead_in};
 ghost use Rattle.assume_list.specs.Places.{AreKnown};
 ghost use Rattle.assume_list.specs.Watched.{IsWatched};
 ghost use Rattle.assume_list.specs.Sights.{is_code, is_within, is_call, look_in, marks_after};
 
-use crate::instruction::{Bytes, is_call, is_register_jump, is_store, loaded, side, stored};
-use crate::marks::Marks;
+use crate::instruction::{is_call, is_register_jump, side};
 use crate::pcs::Pcs;
+use crate::read::read_marks;
 use crate::sight::{Listed, Sight, first_failing, is_analysed, look_up};
 use cells::End;
 use dist_image::{Assumption, Image};
 use memory::Memory;
+use memory_access::{Shadow, Span, is_store, loaded, stored};
 use rv_word::decode;
 use seq_machine::Machine;
 use std::alloc::{AllocError, Global};
@@ -37,8 +40,8 @@ struct Coming {
     side: Option<bool>,
     jumps: bool,
     changed: bool,
-    loads: Bytes,
-    puts: Bytes,
+    loads: Span,
+    puts: Span,
     stores: bool,
 }
 
@@ -51,8 +54,8 @@ fn look_ahead<M: Memory>(machine: &mut Machine<M>, program: &mut M) -> Coming
     ensures side { result.side ≡ side (meaning (word_at (arch_at M.at machine.old.arch))) (arch_at M.at machine.old.arch) }
     ensures jumps { result.jumps ≡ is_register_jump (meaning (word_at (arch_at M.at machine.old.arch))) }
     ensures changed { result.changed ≡ not (nat_eq (word_at (arch_at M.at machine.old.arch)) (number 4 machine.old.arch.pc (M.at program.old))) }
-    ensures loads { span result.loads.count result.loads.from ≡ loaded (meaning (word_at (arch_at M.at machine.old.arch))) (arch_at M.at machine.old.arch) }
-    ensures puts { span result.puts.count result.puts.from ≡ stored (meaning (word_at (arch_at M.at machine.old.arch))) (state_of M.at machine.old) }
+    ensures loads { span_of result.loads ≡ loaded (meaning (word_at (arch_at M.at machine.old.arch))) (arch_at M.at machine.old.arch) }
+    ensures puts { span_of result.puts ≡ stored (meaning (word_at (arch_at M.at machine.old.arch))) (state_of M.at machine.old) }
     ensures few { result.puts.count ≤ 65_536 }
     ensures stores { result.stores ≡ is_store (meaning (word_at (arch_at M.at machine.old.arch))) }
 {
@@ -77,43 +80,38 @@ pub(crate) fn stops(calls: bool, end: Option<End>) -> bool
     calls || end.is_some()
 }
 
-// The marks of the bytes that are fetched and loaded, without those that are 0.
-fn read_marks<M: Memory>(
-    marks: &Marks<M>,
-    pc: u32,
-    loads: Bytes,
-    read: &mut Vec<u32>,
-) -> Result<(), AllocError>
-    requires { IsTold M.at marks.now }
-    ensures { OnOk result ((at : ℕ) → among read.new.items (at + 1) ≡ among (map (marked M.at marks.now) (places 4 pc ++ places loads.count loads.from)) (at + 1)) }
+// What the bytes that a step puts are marked with: 1 more than the pc of a store that is claimed dead, and else 0.
+#[inline(always)]
+fn mark_of<M: Memory>(dead: &M, pc: u32, stores: bool) -> u32
+    requires { pc % 4 ≡ 0 }
+    ensures mark { result ≡ (if stores then counted (M.at dead.now) (pc + 1) else 0) }
+    ensures small { result < 2 ^ 32 - 1 }
 {
-    read.clear();
-    marks.append_some(Bytes { count: 4, from: pc }, read)?;
-    marks.append_some(loads, read)
+    if stores && dead.get(pc) != 0 {
+        pc + 1
+    } else {
+        0
+    }
 }
 
-// Marks the bytes that are put: with the pc of a store that is claimed dead, and 1.
+// Marks the bytes that are put, unless it is seen at once that they have the mark already.
 fn mark<M: Memory>(
     alloc: Global,
-    marks: &mut Marks<M>,
+    marks: &mut Shadow<M>,
     dead: &M,
     pc: u32,
     coming: &Coming,
 ) -> Result<(), AllocError>
-    requires aligned { pc % 4 ≡ 0 }
-    requires few { coming.now.puts.count ≤ 65_536 }
-    requires told { IsTold M.at marks.old }
-    ensures marks { OnOk result ((a : ℕ) → marked M.at marks.new a
-        ≡ (if among (places coming.now.puts.count coming.now.puts.from) a then (if coming.now.stores then counted (M.at dead.now) (pc + 1) else 0) else marked M.at marks.old a)) }
-    ensures told { OnOk result (IsTold M.at marks.new) }
+    requires { pc % 4 ≡ 0 }
+    ensures { OnOk result ((a : ℕ) → mark_at M.at marks.new a
+        ≡ (if among (places coming.now.puts.count coming.now.puts.from) a then (if coming.now.stores then counted (M.at dead.now) (pc + 1) else 0) else mark_at M.at marks.old a)) }
 {
-    if coming.stores && dead.get(pc) != 0 {
-        return marks.put(alloc, coming.puts, pc + 1);
-    }
-    if marks.is_clear(coming.puts) {
+    let puts = coming.puts;
+    let mark = mark_of(dead, pc, coming.stores);
+    if puts.count == 0 || marks.common(puts) == Some(mark) {
         return Ok(());
     }
-    marks.put(alloc, coming.puts, 0)
+    marks.put(alloc, puts, mark)
 }
 
 // A memory with 1 at the pc of each store that a list claims dead.
@@ -146,7 +144,7 @@ pub(crate) struct Watch<M: Memory> {
     pub program: M,
     /// A 1 at the pc of each store that is claimed dead.
     pub dead: M,
-    pub marks: Marks<M>,
+    pub marks: Shadow<M>,
     pub read: Vec<u32>,
     /// The machine's pc is analysed.
     pub analysed: bool,
@@ -160,10 +158,9 @@ impl<M: Memory> Watch<M> {
         requires position { machine.position ≡ 0 }
         ensures state { IfOk result (λ w. state_of M.at w.machine ≡ state_of M.at machine) }
         ensures position { IfOk result (λ w. w.machine.position ≡ 0) }
-        ensures told { IfOk result (λ w. IsTold M.at w.marks) }
         ensures code { IfOk result (λ w. w.listed.code ≡ list_any is_code image.now.assumptions) }
         ensures within { IfOk result (λ w. w.listed.within ≡ list_any is_within image.now.assumptions) }
-        ensures watched { IfOk result (λ w. IsWatched (state_of M.at w.machine) image.now w.machine.position (state_of M.at w.machine) (M.at w.program) (M.at w.dead) (marked M.at w.marks) w.analysed) }
+        ensures watched { IfOk result (λ w. IsWatched (state_of M.at w.machine) image.now w.machine.position (state_of M.at w.machine) (M.at w.program) (M.at w.dead) (mark_at M.at w.marks) w.analysed) }
     {
         let program = machine.arch.mem.snapshot(alloc)?;
         let analysed = is_analysed(image, machine.arch.pc);
@@ -171,7 +168,7 @@ impl<M: Memory> Watch<M> {
             machine,
             program,
             dead: dead_stores(alloc, &image.assumptions)?,
-            marks: Marks::new(alloc)?,
+            marks: Shadow::new(alloc)?,
             read: Vec::new(alloc),
             analysed,
             listed: look_up(image),
@@ -189,7 +186,6 @@ impl<M: Memory> Watch<M> {
         requires known { AreKnown M.at pcs.now image.now }
         requires running { IsNone self.old.machine.end }
         requires room { self.old.machine.position < 2 ^ 64 - 1 }
-        requires told { IsTold M.at self.old.marks }
         requires code { self.old.listed.code ≡ list_any is_code image.now.assumptions }
         requires within { self.old.listed.within ≡ list_any is_within image.now.assumptions }
         requires analysed { self.old.analysed ≡ is_analysed image.now self.old.machine.arch.pc }
@@ -198,12 +194,11 @@ impl<M: Memory> Watch<M> {
         ensures listed { self.new.listed ≡ self.old.listed }
         ensures program { M.at self.new.program ≡ M.at self.old.program }
         ensures dead { M.at self.new.dead ≡ M.at self.old.dead }
-        ensures marks { OnOk result ((a : ℕ) → marked M.at self.new.marks a ≡ marks_after (M.at self.old.dead) (state_of M.at self.old.machine) (marked M.at self.old.marks) a) }
-        ensures told { OnOk result (IsTold M.at self.new.marks) }
+        ensures marks { OnOk result ((a : ℕ) → mark_at M.at self.new.marks a ≡ marks_after (M.at self.old.dead) (state_of M.at self.old.machine) (mark_at M.at self.old.marks) a) }
         ensures analysed { OnOk result (self.new.analysed ≡ is_analysed image.now self.new.machine.arch.pc) }
         ensures stops { IfOk result (λ seen. seen.stops ≡ machine.stops (arch_at M.at self.old.machine.arch)) }
         ensures first { IfOk result (λ seen. seen.first
-            ≡ first_from (fails_by (look_in image.now (number 4 self.old.machine.arch.pc (M.at self.old.program)) (state_of M.at self.old.machine) (marked M.at self.old.marks))) 0 image.now.assumptions) }
+            ≡ first_from (fails_by (look_in image.now (number 4 self.old.machine.arch.pc (M.at self.old.program)) (state_of M.at self.old.machine) (mark_at M.at self.old.marks))) 0 image.now.assumptions) }
     {
         let pc = self.machine.arch.pc;
         let coming = look_ahead(&mut self.machine, &mut self.program);

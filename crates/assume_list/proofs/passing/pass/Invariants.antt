@@ -1,7 +1,7 @@
 -- What is known at a position, and that no other assumption fails before it.
 use Rattle.std.proofs.Common.{◌≡◌, ◌≤◌, ◌-◌}
 use Rattle.seq_machine.specs.States.{state_of}
-use Rattle.assume_list.specs.Marks.{marked, IsTold}
+use Rattle.memory_access.specs.Shadows.{mark_at}
 use Rattle.assume_list.specs.Watched.{IsWatched}
 use Rattle.assume_list.specs.Shown.{IsEarly, shown}
 use Rattle.assume_list.specs.Passes.{IsReached, IsClean}
@@ -14,9 +14,8 @@ invariant-loop-alloc g l =
     let s = state_of at l.watch.machine in
     let j = l.watch.machine.position in
     record {
-      watched : IsWatched start l.image j s (at l.watch.program) (at l.watch.dead) (marked at l.watch.marks) l.watch.analysed;
+      watched : IsWatched start l.image j s (at l.watch.program) (at l.watch.dead) (mark_at at l.watch.marks) l.watch.analysed;
       listed : l.watch.listed ≡ l.fn.watch.listed;
-      told : IsTold at l.watch.marks;
       reached : IsReached start l.image l.bound j s (shown l.waits);
       clean : IsClean start l.image j;
       within : j ≤ l.budget;

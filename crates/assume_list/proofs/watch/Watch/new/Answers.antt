@@ -1,8 +1,9 @@
 -- Nothing is marked yet.
-use Rattle.std.proofs.Common.{◌≡◌, map, ap, ◌∙◌, refl}
+use Rattle.std.proofs.Common.{◌≡◌, ℕ, map, ap, ◌∙◌, refl}
 use Rattle.dist_image.specs.Image.{Distilled, premise}
 use Rattle.seq_machine.specs.States.{state_of}
-use Rattle.assume_list.specs.Marks.{marked, dead_in}
+use Rattle.memory_access.specs.Shadows.{mark_at}
+use Rattle.assume_list.specs.Marks.{dead_in}
 use Rattle.assume_list.proofs.Watched.{begun}
 use Rattle.assume_list.proofs.watch.Watch.new.Goals as goal
 
@@ -12,5 +13,5 @@ returns-clause-watched g c =
     let start = state_of at c.args.machine in
     let claimed : at c.in_ok-dead_stores.field-0 ≡ dead_in c.args.image.now.assumptions =
     c.in_ok-dead_stores.ensures ∙ ap (λ xs. dead_in (map premise xs)) c.deref.ensures.value ∙ ap (λ (i : Distilled). dead_in i.assumptions) c.image.view_is in
-    begun start c.args.image.now c.args.machine.position start (at c.in_ok-program.program) (at c.in_ok-dead_stores.field-0) (marked at c.in_ok-new.field-0) c.is_analysed-analysed.result
-    c.requires.position refl c.in_ok-program.ensures claimed c.in_ok-new.ensures.none c.is_analysed-analysed.ensures
+    begun start c.args.image.now c.args.machine.position start (at c.in_ok-program.program) (at c.in_ok-dead_stores.field-0) (mark_at at c.in_ok-new.field-0) c.is_analysed-analysed.result
+    c.requires.position refl c.in_ok-program.ensures claimed (λ a. ap (λ (f : ℕ → ℕ). f a) c.in_ok-new.ensures) c.is_analysed-analysed.ensures

@@ -6,7 +6,7 @@ use Rattle.rv_run.specs.Calls.{step as next_state}
 use Rattle.fitting.specs.Claims.{among}
 use Rattle.fitting.specs.Fits.{is_analysed}
 use Rattle.seq_machine.specs.States.{state_of}
-use Rattle.assume_list.specs.Marks.{marked}
+use Rattle.memory_access.specs.Shadows.{mark_at}
 use Rattle.assume_list.proofs.Looked.{not_over, stop_seen, marks_seen, looked}
 use Rattle.assume_list.proofs.watch.Watch.step.Goals as goal
 
@@ -26,7 +26,7 @@ returns-clause-first g c =
     let stepped : t ≡ next_state s = c.in_ok-one.ensures.ok ∙ ap next_state c.look_ahead-coming.ensures.state in
     let seen = c.look_ahead-coming.ensures in
     let next : t.arch.pc ≡ (next_state s).arch.pc = ap (λ (u : State). u.arch.pc) stepped in
-    let marks = marked g.M.Memory.at c.args.self.now.marks in
+    let marks = mark_at g.M.Memory.at c.args.self.now.marks in
     looked c.args.image.now (number 4 s.arch.pc (g.M.Memory.at c.args.self.now.program)) s marks _ c.deref.result.now c.first_failing.result c.first_failing.ensures
     (record {
       pc = refl;

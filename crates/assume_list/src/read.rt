@@ -1,0 +1,65 @@
+//! The marks of the bytes that an instruction reads.
+
+ghost use Rattle.std.specs.Prelude.{◌≡◌, ℕ, ◌+◌, [], ◌∷◌, ◌++◌, map, OnOk};
+ghost use Rattle.fitting.specs.Claims.{among};
+ghost use Rattle.profile_laws.specs.Tally.{places};
+ghost use Rattle.memory_access.specs.Shadows.{mark_at};
+
+use memory::Memory;
+use memory_access::{Shadow, Span};
+use std::alloc::AllocError;
+
+// Appends a mark, unless it is 0.
+#[inline(always)]
+fn append_one(mark: u32, to: &mut Vec<u32>) -> Result<(), AllocError>
+    ensures { OnOk result ((at : ℕ) → among to.new.items (at + 1) ≡ among (to.old.items ++ mark ∷ []) (at + 1)) }
+{
+    if mark == 0 {
+        return Ok(());
+    }
+    to.push(mark)?;
+    Ok(())
+}
+
+// Appends the mark of each byte of a span, but for 0.
+#[inline(never)]
+fn append_each<M: Memory>(
+    shadow: &Shadow<M>,
+    span: Span,
+    to: &mut Vec<u32>,
+) -> Result<(), AllocError>
+    ensures { OnOk result ((at : ℕ) → among to.new.items (at + 1) ≡ among (to.old.items ++ map (mark_at M.at shadow.now) (places span.count span.from)) (at + 1)) }
+{
+    for i in 0..span.count {
+        append_one(shadow.get(span.from.wrapping_add(i)), to)?;
+    }
+    Ok(())
+}
+
+// Appends the marks of a span, but for 0. A mark that is seen at once to be that of each byte is appended once.
+#[inline(always)]
+fn append<M: Memory>(shadow: &Shadow<M>, span: Span, to: &mut Vec<u32>) -> Result<(), AllocError>
+    ensures { OnOk result ((at : ℕ) → among to.new.items (at + 1) ≡ among (to.old.items ++ map (mark_at M.at shadow.now) (places span.count span.from)) (at + 1)) }
+{
+    if span.count == 0 {
+        return Ok(());
+    }
+    match shadow.common(span) {
+        Some(mark) => append_one(mark, to),
+        None => append_each(shadow, span, to),
+    }
+}
+
+/// The marks of the bytes that are fetched and loaded, without those that are 0.
+pub(crate) fn read_marks<M: Memory>(
+    marks: &Shadow<M>,
+    pc: u32,
+    loads: Span,
+    read: &mut Vec<u32>,
+) -> Result<(), AllocError>
+    ensures { OnOk result ((at : ℕ) → among read.new.items (at + 1) ≡ among (map (mark_at M.at marks.now) (places 4 pc ++ places loads.count loads.from)) (at + 1)) }
+{
+    read.clear();
+    append(marks, Span { count: 4, from: pc }, read)?;
+    append(marks, loads, read)
+}
