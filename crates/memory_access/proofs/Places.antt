@@ -9,14 +9,14 @@ use Rattle.memory_access.specs.Shadows.{word_of}
 -- bytes of one word
 in_word : (word count from a : ℕ) → word % 4 ≡ 0 → word ≤ from → from + count ≤ word + 4 → word + 4 ≤ 2 ^ 32 → among (places count from) a ≡ true → word_of a ≡ word
 unfolding places
-in_word word zero from a aligned low high small there = absurd (true≢false (sym there))
-in_word word (suc count) from a aligned low high small there = ⊎_elim
+in_word word zero from a aligned low high small among_them = absurd (true≢false (sym among_them))
+in_word word (suc count) from a aligned low high small among_them = ⊎_elim
     (λ (here : nat_eq (from % 2 ^ 32) a ≡ true). let e : from % 2 ^ 32 ≡ a = eqb-true (from % 2 ^ 32) a here in omega arith)
     (λ (later : among (places count (from + 1)) a ≡ true). in_word word count (from + 1) a aligned (omega arith) (omega arith) small later)
-    (or_cases (nat_eq (from % 2 ^ 32) a) (among (places count (from + 1)) a) there)
+    (or_cases (nat_eq (from % 2 ^ 32) a) (among (places count (from + 1)) a) among_them)
 
 pub in_one_word : (count from a : ℕ) → from < 2 ^ 32 → count ≤ 4 - from % 4 → among (places count from) a ≡ true → word_of a ≡ word_of from
-in_one_word count from a small few there = in_word (word_of from) count from a (omega arith) (omega arith) (omega arith) (omega arith) there
+in_one_word count from a small few among_them = in_word (word_of from) count from a (omega arith) (omega arith) (omega arith) (omega arith) among_them
 
 -- only an address modulo 2 ^ 32 counts
 places_modulo : (count a b : ℕ) → a % 2 ^ 32 ≡ b % 2 ^ 32 → places count a ≡ places count b
@@ -79,3 +79,15 @@ four_places word a small aligned =
     (λ h. eq-eqb (word_of a) word (in_word word 4 word a aligned (omega arith) (omega arith) (omega arith) h))
     (λ h. let same : word_of a ≡ word = eqb-true (word_of a) word h in
     subst (λ b. among (places 4 word) b ≡ true) (let e : word + a % 4 ≡ a = omega arith in e) (there (a % 4) 4 word (omega arith) (omega arith)))
+
+-- each address of a span is so many bytes behind the first
+pub behind : (count from a : ℕ) → among (places count from) a ≡ true → (k : ℕ) × (k < count) × (a ≡ (from + k) % 2 ^ 32)
+unfolding places
+behind zero from a among_them = absurd (true≢false (sym among_them))
+behind (suc count) from a among_them = ⊎_elim
+    (λ (e : nat_eq (from % 2 ^ 32) a ≡ true). let same : from % 2 ^ 32 ≡ a = eqb-true (from % 2 ^ 32) a e in (0, omega arith, omega arith))
+    (λ (later : among (places count (from + 1)) a ≡ true). let h = behind count (from + 1) a later in next h.0 h.1 h.2)
+    (or_cases (nat_eq (from % 2 ^ 32) a) (among (places count (from + 1)) a) among_them)
+  where
+    next : (k : ℕ) → k < count → a ≡ (from + 1 + k) % 2 ^ 32 → (j : ℕ) × (j < suc count) × (a ≡ (from + j) % 2 ^ 32)
+    next k lt is = (suc k, omega arith, omega arith)

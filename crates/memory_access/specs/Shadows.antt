@@ -25,5 +25,9 @@ module _ {M : Type 0} where
   lane s (suc (suc zero)) = s.third
   lane s _ = s.fourth
 
+  -- the mark that a byte has of its own
+  abbrev pub own_at : (M → ℕ → ℕ) → Shadow M → ℕ → ℕ
+  own_at at s a = spelled (word_of a) (at (lane s (a % 4)))
+
   abbrev pub mark_at : (M → ℕ → ℕ) → Shadow M → ℕ → ℕ
-  mark_at at s a = mark_of (spelled (word_of a) (at s.whole)) (spelled (word_of a) (at (lane s (a % 4))))
+  mark_at at s a = mark_of (spelled (word_of a) (at s.whole)) (own_at at s a)

@@ -4,7 +4,7 @@ ghost use Rattle.std.specs.Prelude.{◌≡◌, ℕ, ◌-◌, ◌%◌, ◌^◌, �
 ghost use Rattle.fitting.specs.Claims.{among};
 ghost use Rattle.profile_laws.specs.Tally.{places, bytes_in};
 ghost use Rattle.memory_access.specs.Spans.{span_of};
-ghost use Rattle.memory_access.specs.Shadows.{spelled, word_of, lane, apart, mark_at};
+ghost use Rattle.memory_access.specs.Shadows.{spelled, word_of, lane, apart, own_at, mark_at};
 
 use crate::span::Span;
 use memory::Memory;
@@ -64,7 +64,7 @@ impl<M: Memory> Shadow<M> {
 
     // The mark that a byte has of its own, which counts where its word has none.
     fn own(&self, a: u32) -> u32
-        ensures { result ≡ spelled (word_of a) (M.at (lane self.now (a % 4))) }
+        ensures { result ≡ own_at M.at self.now a }
     {
         let word = a - a % 4;
         match a % 4 {
@@ -85,8 +85,22 @@ impl<M: Memory> Shadow<M> {
         }
     }
 
-    /// The mark that each byte of a span has, where one look tells: they lie in one word, which was
-    /// marked as a whole. Takes no memory.
+    // The mark that each byte of a span has of its own, if all of them have the same.
+    #[inline(never)]
+    fn common_own(&self, span: Span) -> Option<u32>
+        ensures { IfSome result (λ mark. (a : ℕ) → among (bytes_in (span_of span)) a ≡ true → own_at M.at self.now a ≡ mark) }
+    {
+        let mark = self.own(span.from);
+        for i in 1..span.count {
+            if self.own(span.from.wrapping_add(i)) != mark {
+                return None;
+            }
+        }
+        Some(mark)
+    }
+
+    /// The mark that each byte of a span has, where they lie in one word and have the same. Takes no
+    /// memory.
     #[inline(always)]
     pub fn common(&self, span: Span) -> Option<u32>
         ensures { IfSome result (λ mark. (a : ℕ) → among (bytes_in (span_of span)) a ≡ true → mark_at M.at self.now a ≡ mark) }
@@ -96,7 +110,10 @@ impl<M: Memory> Shadow<M> {
             return None;
         }
         let mark = mark_in(&self.whole, from - from % 4);
-        if mark == APART { None } else { Some(mark) }
+        if mark == APART {
+            return self.common_own(span);
+        }
+        Some(mark)
     }
 
     // Marks the four bytes of a word.
@@ -140,9 +157,9 @@ impl<M: Memory> Shadow<M> {
     // Gives a byte a mark of its own.
     fn put_own(&mut self, alloc: Global, a: u32, mark: u32) -> Result<(), AllocError>
         ensures whole { M.at self.new.whole ≡ M.at self.old.whole }
-        ensures here { OnOk result (spelled (word_of a) (M.at (lane self.new (a % 4))) ≡ mark) }
-        ensures elsewhere { (b : ℕ) → (b ≡ a → ⊥) → spelled (word_of b) (M.at (lane self.new (b % 4))) ≡ spelled (word_of b) (M.at (lane self.old (b % 4))) }
-        ensures err { OnErr result ((b : ℕ) → spelled (word_of b) (M.at (lane self.new (b % 4))) ≡ spelled (word_of b) (M.at (lane self.old (b % 4)))) }
+        ensures here { OnOk result (own_at M.at self.new a ≡ mark) }
+        ensures elsewhere { (b : ℕ) → (b ≡ a → ⊥) → own_at M.at self.new b ≡ own_at M.at self.old b }
+        ensures err { OnErr result ((b : ℕ) → own_at M.at self.new b ≡ own_at M.at self.old b) }
     {
         let word = a - a % 4;
         match a % 4 {

@@ -46,7 +46,8 @@ fn words_and_bytes(rt: HostRuntime) -> Result<(), Fail> {
         marks(&shadow, 0x1_0000),
         [5, 5, 5, 0x1_0009, 0x1_0009, 0, 0, 0]
     );
-    assert_eq!(rt; shadow.common(span(1, 0x1_0000)), None);
+    assert_eq!(rt; shadow.common(span(3, 0x1_0000)), Some(5));
+    assert_eq!(rt; shadow.common(span(2, 0x1_0002)), None);
     shadow.put(rt.alloc(), span(4, 0x1_0000), 9)?;
     assert_eq!(rt; shadow.common(span(3, 0x1_0001)), Some(9));
     assert_eq!(rt; marks(&shadow, 0x1_0000), [9, 9, 9, 9, 0x1_0009, 0, 0, 0]);

@@ -1,5 +1,5 @@
--- What is known of the value in a result or an option, from what was known of it before.
-use Rattle.std.proofs.Common.{Result, Ok, Err, OnOk, IfOk, IfErr, Option, Some, None, IfSome}
+-- What is known of the value in a result, from what was known of it before.
+use Rattle.std.proofs.Common.{Result, Ok, Err, OnOk, IfOk, IfErr}
 
 pub on_ok : {T E : Type 0} {P Q : Type 0} (r : Result T E) → OnOk r P → (P → Q) → OnOk r Q
 on_ok (Ok x) h f = f h
@@ -16,7 +16,3 @@ on_err (Err e) h f = f e h
 pub if_ok : {T E : Type 0} {P Q : T → Type 0} (r : Result T E) → IfOk r P → ((x : T) → P x → Q x) → IfOk r Q
 if_ok (Ok x) h f = f x h
 if_ok (Err e) h f = tt
-
-pub if_some : {T : Type 0} {P Q : T → Type 0} (o : Option T) → IfSome o P → ((x : T) → P x → Q x) → IfSome o Q
-if_some None h f = tt
-if_some (Some x) h f = f x h

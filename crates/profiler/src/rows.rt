@@ -1,4 +1,4 @@
-//! The rows of a profile while it is made.
+//! Single rows of a profile while it is made.
 
 ghost use Rattle.std.specs.Prelude.{◌≡◌, ℕ, ◌≤◌, ◌+◌, ◌++◌, ◌∷◌, [], false, length, IfOk, IfErr, OnOk, is_some, slice_get};
 ghost use Rattle.std.specs.List.Sorted.{IsStrictlyIncreasing};

@@ -1,6 +1,7 @@
 //! The rows of a profile while it is made.
 
-ghost use Rattle.std.specs.Prelude.{◌≡◌, ◌≤◌, ◌+◌, [], IfOk, IfErr, IfSome, OnOk, is_some, slice_get};
+ghost use Rattle.std.specs.Prelude.{◌≡◌, ◌≤◌, ◌+◌, [], true, IfOk, IfErr, IfSome, OnOk, is_some, slice_get};
+ghost use Rattle.std.specs.Bool.{OnTrue};
 ghost use Rattle.indexmap.specs.IndexMap.{values};
 ghost use Rattle.profile_data.specs.Profile.{target_count, row_at};
 ghost use Rattle.profile_data.specs.Keyed.{IsKeyed};
@@ -16,13 +17,16 @@ use indexmap::IndexMap;
 use profile_data::Row;
 use std::alloc::Global;
 
+/// How many places `near` has.
+const NEAR: usize = 1024;
+
 /// The rows so far, under their addresses.
 #[derive(Drop)]
 pub(crate) struct Table {
     pub rows: IndexMap<u32, Row>,
-    /// The index behind that of the row that was counted last. Rows lie in the order of their first
-    /// positions, so the row of the next position mostly lies there.
-    next: usize,
+    /// By the low bits of an address, the index of the row that was found last for one with these bits.
+    /// Most rows are found there again; the key tells whether it is the row.
+    near: [usize; NEAR],
 }
 
 impl Table {
@@ -32,21 +36,41 @@ impl Table {
     {
         Table {
             rows: IndexMap::new(alloc),
-            next: 0,
+            near: [0; NEAR],
+        }
+    }
+
+    // Whether the row at an index is that of an address.
+    #[inline(always)]
+    fn has(&self, at: usize, pc: u32) -> bool
+        requires { IsKeyed self.now.rows }
+        ensures row { OnTrue result (slice_get (values self.now.rows) at ≡ row_at (values self.now.rows) pc) }
+        ensures found { OnTrue result (is_some (row_at (values self.now.rows) pc) ≡ true) }
+    {
+        match self.rows.get_index(at) {
+            Some((key, _)) => *key == pc,
+            None => false,
         }
     }
 
     // The index of the row of an address.
     #[inline(always)]
-    fn index(&self, pc: u32) -> Option<usize>
-        requires { IsKeyed self.now.rows }
-        ensures row { IfSome result (λ at. slice_get (values self.now.rows) at ≡ row_at (values self.now.rows) pc) }
-        ensures found { is_some result ≡ is_some (row_at (values self.now.rows) pc) }
+    fn index(&mut self, pc: u32) -> Option<usize>
+        requires { IsKeyed self.old.rows }
+        ensures rows { self.new.rows ≡ self.old.rows }
+        ensures row { IfSome result (λ at. slice_get (values self.old.rows) at ≡ row_at (values self.old.rows) pc) }
+        ensures found { is_some result ≡ is_some (row_at (values self.old.rows) pc) }
     {
-        match self.rows.get_index(self.next) {
-            Some((key, _)) if *key == pc => Some(self.next),
-            _ => self.rows.get_index_of(&pc),
+        let low = pc as usize / 4 % NEAR;
+        let near = self.near[low];
+        if self.has(near, pc) {
+            return Some(near);
         }
+        let found = self.rows.get_index_of(&pc);
+        if let Some(at) = found {
+            self.near[low] = at;
+        }
+        found
     }
 
     /// Notes that a byte with this mark was read: 1 more than the address of a store, or 0.
@@ -94,14 +118,8 @@ impl Table {
         ensures err { IfErr result (λ e. e ≡ Memory) }
     {
         match self.index(visit.pc) {
-            Some(at) => {
-                self.next = at.wrapping_add(1);
-                Ok(count_row(&mut self.rows, at, visit, target)?)
-            }
-            None => {
-                self.next = self.rows.len().wrapping_add(1);
-                count_new(alloc, &mut self.rows, visit, target)
-            }
+            Some(at) => Ok(count_row(&mut self.rows, at, visit, target)?),
+            None => count_new(alloc, &mut self.rows, visit, target),
         }
     }
 }

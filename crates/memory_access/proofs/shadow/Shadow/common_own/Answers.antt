@@ -1,0 +1,21 @@
+-- Byte after byte has the same mark.
+use Rattle.std.proofs.Common.{◌≡◌, ◌+◌, ◌%◌, ◌^◌, ⊎_elim, sym, ap, ◌∙◌, arith}
+use Rattle.std.proofs.lemmas.Bool.{cases_eq}
+use Rattle.memory_access.specs.Shadows.{own_at}
+use Rattle.memory_access.proofs.Places.{behind}
+use Rattle.memory_access.proofs.shadow.Shadow.common_own.Goals as goal
+
+pub loop-i-init : goal.loop-i-init
+loop-i-init g c k lt = ap (own_at g.M.Memory.at c.args.self.now) (let e : (c.args.span.from + k) % 2 ^ 32 ≡ c.args.span.from = omega arith in e) ∙ sym c.own-mark.ensures
+
+pub loop-i-preserved : goal.loop-i-preserved
+loop-i-preserved g c k lt = ⊎_elim
+    (λ (e : k ≡ c.loop-i.i).
+    ap (λ n. own_at g.M.Memory.at c.args.self.now ((c.args.span.from + n) % 2 ^ 32)) e ∙ sym c.own.ensures ∙ c.if-own-mark.false)
+    (λ (ne : k ≡ c.loop-i.i → ⊥). c.loop-i.invariant k (omega arith))
+    (cases_eq k c.loop-i.i)
+
+pub returns : goal.returns
+returns g c a there =
+    let h = behind c.args.span.count c.args.span.from a there in
+    ap (own_at g.M.Memory.at c.args.self.now) h.2 ∙ c.loop-i.invariant h.0 (omega (arith, h.1, c.loop-i-test.false))
