@@ -15,6 +15,9 @@
 # image: with the same answer, and where the check says that the run meets what the image assumes,
 # with no task squashed or dropped.
 #
+# A profile is written where its name leads: over its program too, but neither onto a folder nor into
+# one that isn't there.
+#
 # Cases with a line on standard error end by a trap, which is a signal under Linux, so
 # --qemu leaves them out.
 #
@@ -151,7 +154,27 @@ distils() {
   fi
 }
 
+# what `profile` answers where the name of its output is that of its program, of a folder, or lies in none
+writes_where_named() {
+  local name
+  cp bin/hello.elf "$room/own"
+  if ! "$binary" profile bin/hello.elf "$room/profile" </dev/null ||
+    ! "$binary" profile "$room/own" "$room/own" </dev/null || ! cmp "$room/profile" "$room/own"; then
+    echo "FAILED profile over its program"
+    return 1
+  fi
+  for name in "$room" "$room/absent/profile"; do
+    "$binary" profile bin/hello.elf "$name" </dev/null >"$room/out" 2>"$room/err"
+    status=$?
+    if [ "$status" != 112 ] || [ -s "$room/out" ] || [ "$(<"$room/err")" != "mssp: store fault $name" ]; then
+      echo "FAILED profile to $name: status $status for 112"
+      return 1
+    fi
+  done
+}
+
 if [ -n "$binary" ]; then
+  if writes_where_named; then passed=$((passed + 1)); else failed=$((failed + 1)); fi
   for file in expected/*.status; do
     if distils "$(basename "$file" .status)"; then passed=$((passed + 1)); else failed=$((failed + 1)); fi
   done
