@@ -9,14 +9,14 @@ use Rattle.memory_access.specs.Shadows.{word_of}
 -- bytes of one word
 in_word : (word count from a : ℕ) → word % 4 ≡ 0 → word ≤ from → from + count ≤ word + 4 → word + 4 ≤ 2 ^ 32 → among (places count from) a ≡ true → word_of a ≡ word
 unfolding places
-in_word word zero from a aligned low high small among_them = absurd (true≢false (sym among_them))
-in_word word (suc count) from a aligned low high small among_them = ⊎_elim
+in_word word zero from a aligned low high small h = absurd (true≢false (sym h))
+in_word word (suc count) from a aligned low high small h = ⊎_elim
     (λ (here : nat_eq (from % 2 ^ 32) a ≡ true). let e : from % 2 ^ 32 ≡ a = eqb-true (from % 2 ^ 32) a here in omega arith)
     (λ (later : among (places count (from + 1)) a ≡ true). in_word word count (from + 1) a aligned (omega arith) (omega arith) small later)
-    (or_cases (nat_eq (from % 2 ^ 32) a) (among (places count (from + 1)) a) among_them)
+    (or_cases (nat_eq (from % 2 ^ 32) a) (among (places count (from + 1)) a) h)
 
 pub in_one_word : (count from a : ℕ) → from < 2 ^ 32 → count ≤ 4 - from % 4 → among (places count from) a ≡ true → word_of a ≡ word_of from
-in_one_word count from a small few among_them = in_word (word_of from) count from a (omega arith) (omega arith) (omega arith) (omega arith) among_them
+in_one_word count from a small few h = in_word (word_of from) count from a (omega arith) (omega arith) (omega arith) (omega arith) h
 
 -- only an address modulo 2 ^ 32 counts
 places_modulo : (count a b : ℕ) → a % 2 ^ 32 ≡ b % 2 ^ 32 → places count a ≡ places count b
@@ -83,11 +83,20 @@ four_places word a small aligned =
 -- each address of a span is so many bytes behind the first
 pub behind : (count from a : ℕ) → among (places count from) a ≡ true → (k : ℕ) × (k < count) × (a ≡ (from + k) % 2 ^ 32)
 unfolding places
-behind zero from a among_them = absurd (true≢false (sym among_them))
-behind (suc count) from a among_them = ⊎_elim
+behind zero from a h = absurd (true≢false (sym h))
+behind (suc count) from a h = ⊎_elim
     (λ (e : nat_eq (from % 2 ^ 32) a ≡ true). let same : from % 2 ^ 32 ≡ a = eqb-true (from % 2 ^ 32) a e in (0, omega arith, omega arith))
-    (λ (later : among (places count (from + 1)) a ≡ true). let h = behind count (from + 1) a later in next h.0 h.1 h.2)
-    (or_cases (nat_eq (from % 2 ^ 32) a) (among (places count (from + 1)) a) among_them)
+    (λ (later : among (places count (from + 1)) a ≡ true). let rest = behind count (from + 1) a later in next rest.0 rest.1 rest.2)
+    (or_cases (nat_eq (from % 2 ^ 32) a) (among (places count (from + 1)) a) h)
   where
     next : (k : ℕ) → k < count → a ≡ (from + 1 + k) % 2 ^ 32 → (j : ℕ) × (j < suc count) × (a ≡ (from + j) % 2 ^ 32)
     next k lt is = (suc k, omega arith, omega arith)
+
+pub among_them : (k count from : ℕ) → k < count → among (places count from) ((from + k) % 2 ^ 32) ≡ true
+unfolding places
+among_them k zero from lt = absurd (omega arith)
+among_them zero (suc count) from lt =
+    or_left (nat_eq (from % 2 ^ 32) ((from + 0) % 2 ^ 32)) (among (places count (from + 1)) ((from + 0) % 2 ^ 32)) (eq-eqb (from % 2 ^ 32) ((from + 0) % 2 ^ 32) (omega arith))
+among_them (suc k) (suc count) from lt =
+    or_right (nat_eq (from % 2 ^ 32) ((from + suc k) % 2 ^ 32)) (among (places count (from + 1)) ((from + suc k) % 2 ^ 32))
+    (subst (λ b. among (places count (from + 1)) b ≡ true) (let e : (from + 1 + k) % 2 ^ 32 ≡ (from + suc k) % 2 ^ 32 = omega arith in e) (among_them k count (from + 1) (omega arith)))

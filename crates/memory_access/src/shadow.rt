@@ -1,6 +1,6 @@
 //! A mark for each byte of a guest's memory.
 
-ghost use Rattle.std.specs.Prelude.{◌≡◌, ℕ, ◌-◌, ◌%◌, ◌^◌, ◌<◌, ◌≤◌, ◌==◌, if◌then◌else◌, true, false, IfOk, OnOk, OnErr, IfSome};
+ghost use Rattle.std.specs.Prelude.{◌≡◌, ℕ, ◌+◌, ◌-◌, ◌%◌, ◌^◌, ◌<◌, ◌≤◌, ◌==◌, if◌then◌else◌, true, false, IfOk, OnOk, OnErr, IfSome, is_some};
 ghost use Rattle.fitting.specs.Claims.{among};
 ghost use Rattle.profile_laws.specs.Tally.{places, bytes_in};
 ghost use Rattle.memory_access.specs.Spans.{span_of};
@@ -88,7 +88,8 @@ impl<M: Memory> Shadow<M> {
     // The mark that each byte of a span has of its own, if all of them have the same.
     #[inline(never)]
     fn common_own(&self, span: Span) -> Option<u32>
-        ensures { IfSome result (λ mark. (a : ℕ) → among (bytes_in (span_of span)) a ≡ true → own_at M.at self.now a ≡ mark) }
+        ensures marks { IfSome result (λ mark. (a : ℕ) → among (bytes_in (span_of span)) a ≡ true → own_at M.at self.now a ≡ mark) }
+        ensures found { (mark : ℕ) → 0 < span.count → ((a : ℕ) → among (bytes_in (span_of span)) a ≡ true → own_at M.at self.now a ≡ mark) → is_some result ≡ true }
     {
         let mark = self.own(span.from);
         for i in 1..span.count {
@@ -103,7 +104,8 @@ impl<M: Memory> Shadow<M> {
     /// memory.
     #[inline(always)]
     pub fn common(&self, span: Span) -> Option<u32>
-        ensures { IfSome result (λ mark. (a : ℕ) → among (bytes_in (span_of span)) a ≡ true → mark_at M.at self.now a ≡ mark) }
+        ensures marks { IfSome result (λ mark. (a : ℕ) → among (bytes_in (span_of span)) a ≡ true → mark_at M.at self.now a ≡ mark) }
+        ensures found { (mark : ℕ) → 0 < span.count → span.from % 4 + span.count ≤ 4 → ((a : ℕ) → among (bytes_in (span_of span)) a ≡ true → mark_at M.at self.now a ≡ mark) → is_some result ≡ true }
     {
         let Span { count, from } = span;
         if count > 4 - from % 4 {

@@ -11,5 +11,5 @@ returns-then-span-eq0 g c = λ at. none_adds (mark_at g.M.Memory.at c.args.shado
 pub returns-in-Some : goal.returns-in-Some
 returns-in-Some g c =
     on_ok_weaker c.append_one.result
-    (λ e at. e at ∙ one_adds c.args.to.now.items c.args.span.count c.args.span.from c.in-Some.mark (at + 1) (mark_at g.M.Memory.at c.args.shadow.now) c.if-span-eq0.false c.in-Some.ensures)
+    (λ e at. e at ∙ one_adds c.args.to.now.items c.args.span.count c.args.span.from c.in-Some.mark (at + 1) (mark_at g.M.Memory.at c.args.shadow.now) c.if-span-eq0.false c.in-Some.ensures.marks)
     c.append_one.ensures

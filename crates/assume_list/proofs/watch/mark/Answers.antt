@@ -13,6 +13,6 @@ returns-then-puts-eq0 g c = λ a.
     (elim c.then-puts-eq0.branch [
       | then-puts-eq0-via-then-puts-eq0 w ↦ λ h. absurd (no_byte c.args.coming.now.puts.count c.args.coming.now.puts.from a w.if-puts-eq0.true h)
       | then-puts-eq0-via-else-puts-eq0+then-eq w ↦ said_of w.common.result c.mark_of-mark.result
-          (λ mark. (b : ℕ) → among (places c.args.coming.now.puts.count c.args.coming.now.puts.from) b ≡ true → mark_at g.M.Memory.at c.args.marks.now b ≡ mark) w.common.ensures
+          (λ mark. (b : ℕ) → among (places c.args.coming.now.puts.count c.args.coming.now.puts.from) b ≡ true → mark_at g.M.Memory.at c.args.marks.now b ≡ mark) w.common.ensures.marks
           (sym w.if-eq.true ∙ w.eq.ensures) a
     ])
