@@ -33,7 +33,9 @@ committed, and of how many of them tasks took care.
 prints the seconds of each command beside those of `run`.  Then it distils programs without
 a branch, at whose last instruction a register is read that none of the others touches: as
 many rounds of masks as there are instructions.  With --callgrind it counts the host
-instructions of `run`, `profile` and `check` for each guest instruction instead.
+instructions of `run`, `profile` and `check` for each guest instruction instead, and those of
+`run` and `profile` for loops that do hardly anything but load, or store, bytes, halves or
+words that a store wrote, and words across two words of memory.
 """
 import argparse
 import hashlib
@@ -198,6 +200,35 @@ def loop_image():
     return header + slots + numbers(0x10000, 0, 16) + notes
 
 
+def load(size, to, base, offset):
+    return 0x03 | {1: 4, 2: 5, 4: 2}[size] << 12 | to << 7 | base << 15 | offset << 20
+
+
+def store(size, value, base, offset):
+    return 0x23 | size.bit_length() - 1 << 12 | value << 20 | base << 15 | (offset & 31) << 7 | offset >> 5 << 25
+
+
+def add(to, number):
+    return 0x13 | to << 7 | to << 15 | number << 20
+
+
+def back_while_below(register, limit, instructions):
+    """BLTU to so many instructions before."""
+    offset = -4 * instructions & 0x1FFF
+    return (0x63 | 6 << 12 | register << 15 | limit << 20 | (offset >> 11 & 1) << 7 | (offset >> 1 & 15) << 8
+            | (offset >> 5 & 63) << 25 | (offset >> 12 & 1) << 31)
+
+
+def touching_loop(touch, size, start):
+    """A program without end that fills 16 KiB by two stores, and then loads or stores all of it, 16 times a turn."""
+    fill = [store(size, 0, 5, start), store(size, 0, 5, start + size), add(5, 2 * size)]
+    turn = [touch(size, 8, 5, start + size * k) for k in range(16)] + [add(5, 16 * size)]
+    to_first, to_limit = 0x000202B7, 0x000243B7  # LUI to x5 and x7
+    words = [to_first, to_limit, *fill, back_while_below(5, 7, len(fill))]
+    again = [to_first, *turn, back_while_below(5, 7, len(turn))]
+    return program_of([*words, *again, back_while_below(0, 7, len(again))])
+
+
 def seconds_of(words, status):
     """The processor seconds of a run whose output goes nowhere."""
     child = subprocess.Popen(words, stdin=subprocess.DEVNULL, stdout=subprocess.DEVNULL,
@@ -299,6 +330,14 @@ def show_distilling_instructions(binary, programs):
             checked = for_each([binary, "check", program.file, image], 0)
             print(f"{program.name:16}{run:14.1f}{profiled:14.1f}{profiled / run:14.2f}"
                   f"{checked:14.1f}{checked / run:14.2f}", flush=True)
+        file = os.path.join(folder, "elf")
+        loops = {"bytes": (1, 0), "halves": (2, 0), "words": (4, 0), "across words": (4, 1)}
+        for touch in (load, store):
+            for name, (size, start) in loops.items():
+                Path(file).write_bytes(touching_loop(touch, size, start))
+                run = for_each([binary, "run", file])
+                profiled = for_each([binary, "profile", file, profile], 0)
+                print(f"{f'{touch.__name__} {name}':20}{run:10.1f}{profiled:14.1f}{profiled / run:14.2f}", flush=True)
 
 
 def main():
