@@ -1,351 +1,37 @@
-//! Words as a new user would try them.
+//! What no clause says of the one private function that has edges of its own: numbers, as words of a command line.
 
-use super::*;
 use crate::number::read_number;
-use std::alloc::{AllocError, Global};
 use std::test::Fail;
 
-fn words_of(alloc: Global, texts: &[&str]) -> Result<Vec<String>, AllocError> {
-    let mut words = Vec::new(alloc);
-    for text in texts {
-        words.push(String::from_str(alloc, text)?)?;
-    }
-    Ok(words)
-}
-
-/// Whether the words are this run.
-fn is_run(alloc: Global, texts: &[&str], want: &Run<'_>) -> Result<bool, AllocError> {
-    let words = words_of(alloc, texts)?;
-    Ok(read_command(&words) == Some(Command::Run(*want)))
-}
-
-#[test]
-fn reads_commands(rt: HostRuntime) -> Result<(), Fail> {
-    let cases: [(&[&str], &str, Option<&str>, u64); 9] = [
-        (&["run", "p"], "p", None, 1_000_000_000),
-        (&["run", "p", "--input", "f"], "p", Some("f"), 1_000_000_000),
-        (&["run", "p", "--budget", "1"], "p", None, 1),
-        (
-            &["run", "p", "--budget", "1000000000000"],
-            "p",
-            None,
-            1_000_000_000_000,
-        ),
-        (
-            &["run", "p", "--input", "f", "--budget", "20"],
-            "p",
-            Some("f"),
-            20,
-        ),
-        (
-            &["run", "p", "--budget", "20", "--input", "f"],
-            "p",
-            Some("f"),
-            20,
-        ),
-        (&["run", "--input"], "--input", None, 1_000_000_000),
-        (
-            &["run", "--budget", "--input", "--budget"],
-            "--budget",
-            Some("--budget"),
-            1_000_000_000,
-        ),
-        (
-            &["run", "run", "--input", "a b"],
-            "run",
-            Some("a b"),
-            1_000_000_000,
-        ),
-    ];
-    for (texts, program, input, budget) in cases {
-        let want = Run {
-            program,
-            image: None,
-            input,
-            report: None,
-            slaves: 4,
-            budget,
-        };
-        assert!(rt; is_run(rt.alloc(), texts, &want)?, "at {texts:?}");
-    }
-    Ok(())
-}
-
-#[test]
-fn reads_runs_with_a_report(rt: HostRuntime) -> Result<(), Fail> {
-    let cases: [(&[&str], Option<&str>, Option<&str>, u8); 6] = [
-        (&["--report", "r"], None, Some("r"), 4),
-        (&["--slaves", "64"], None, None, 64),
-        (&["--slaves", "1", "--report", "r"], None, Some("r"), 1),
-        (&["--image", "i", "--report", "r"], Some("i"), Some("r"), 4),
-        (&["--report", "r", "--image", "r"], Some("r"), Some("r"), 4),
-        (
-            &[
-                "--report", "--image", "--image", "--report", "--slaves", "9",
-            ],
-            Some("--report"),
-            Some("--image"),
-            9,
-        ),
-    ];
-    for (options, image, report, slaves) in cases {
-        let mut words = words_of(rt.alloc(), &["run", "p"])?;
-        for option in options {
-            words.push(String::from_str(rt.alloc(), option)?)?;
-        }
-        let want = Run {
-            program: "p",
-            image,
-            input: None,
-            report,
-            slaves,
-            budget: 1_000_000_000,
-        };
-        assert_eq!(rt;
-            read_command(&words),
-            Some(Command::Run(want)),
-            "at {options:?}"
-        );
-    }
-    Ok(())
-}
-
-#[test]
-fn reads_the_name_of_an_image(rt: HostRuntime) -> Result<(), Fail> {
-    for image in ["f", "show", "--input", "a b"] {
-        let words = words_of(rt.alloc(), &["show", image])?;
-        assert_eq!(rt; read_command(&words), Some(Command::Show { image }));
-    }
-    Ok(())
-}
-
-#[test]
-fn reads_replays(rt: HostRuntime) -> Result<(), Fail> {
-    let cases: [(&[&str], Option<&str>, u8); 5] = [
-        (&[], None, 4),
-        (&["--slaves", "1"], None, 1),
-        (&["--slaves", "64"], None, 64),
-        (&["--input", "f"], Some("f"), 4),
-        (
-            &["--slaves", "20", "--input", "--slaves"],
-            Some("--slaves"),
-            20,
-        ),
-    ];
-    for (options, input, slaves) in cases {
-        let mut words = words_of(rt.alloc(), &["replay", "p", "i", "--input"])?;
-        for option in options {
-            words.push(String::from_str(rt.alloc(), option)?)?;
-        }
-        let want = Replay {
-            program: "p",
-            image: "i",
-            events: "--input",
-            input,
-            slaves,
-        };
-        assert_eq!(rt;
-            read_command(&words),
-            Some(Command::Replay(want)),
-            "at {options:?}"
-        );
-    }
-    Ok(())
-}
-
-#[test]
-fn reads_profiles_and_checks(rt: HostRuntime) -> Result<(), Fail> {
-    let cases: [(&[&str], Option<&str>, u64); 6] = [
-        (&[], None, 1_000_000_000),
-        (&["--input", "f"], Some("f"), 1_000_000_000),
-        (&["--budget", "1"], None, 1),
-        (&["--budget", "1000000000000"], None, 1_000_000_000_000),
-        (&["--input", "f", "--budget", "45"], Some("f"), 45),
-        (
-            &["--budget", "45", "--input", "--budget"],
-            Some("--budget"),
-            45,
-        ),
-    ];
-    for (options, input, budget) in cases {
-        let mut profile = words_of(rt.alloc(), &["profile", "p", "--input"])?;
-        let mut check = words_of(rt.alloc(), &["check", "p", "--input"])?;
-        for option in options {
-            profile.push(String::from_str(rt.alloc(), option)?)?;
-            check.push(String::from_str(rt.alloc(), option)?)?;
-        }
-        let want = Walk {
-            program: "p",
-            other: "--input",
-            input,
-            budget,
-        };
-        assert_eq!(rt;
-            read_command(&profile),
-            Some(Command::Profile(want)),
-            "at {options:?}"
-        );
-        assert_eq!(rt;
-            read_command(&check),
-            Some(Command::Check(want)),
-            "at {options:?}"
-        );
-    }
-    Ok(())
-}
-
-#[test]
-fn reads_distillations(rt: HostRuntime) -> Result<(), Fail> {
-    let cases: [(&[&str], u32, u64, u32, u32); 5] = [
-        (&[], 10, 2, 200, 4_096),
-        (&["--rare", "0", "--hot", "1"], 0, 1, 200, 4_096),
-        (&["--goal", "1", "--limit", "16"], 10, 2, 1, 16),
-        (&["--limit", "16384", "--rare", "100"], 100, 2, 200, 16_384),
-        (
-            &["--hot", "1000000000000", "--goal", "65536"],
-            10,
-            1_000_000_000_000,
-            65_536,
-            4_096,
-        ),
-    ];
-    for (options, rare, hot, goal, limit) in cases {
-        let mut words = words_of(rt.alloc(), &["distill", "p", "f", "--rare"])?;
-        for option in options {
-            words.push(String::from_str(rt.alloc(), option)?)?;
-        }
-        let want = Distill {
-            program: "p",
-            profile: "f",
-            output: "--rare",
-            rare,
-            hot,
-            goal,
-            limit,
-        };
-        assert_eq!(rt;
-            read_command(&words),
-            Some(Command::Distill(want)),
-            "at {options:?}"
-        );
-    }
-    Ok(())
-}
-
-#[test]
-fn refuses_other_words(rt: HostRuntime) -> Result<(), Fail> {
-    let cases: [&[&str]; 75] = [
-        &[],
-        &[""],
-        &["run"],
-        &["run", ""],
-        &["Run", "p"],
-        &["runs", "p"],
-        &["ru", "p"],
-        &["p", "run"],
-        &["--budget", "1", "run", "p"],
-        &["run", "--input", "f", "p"],
-        &["run", "p", "q"],
-        &["run", "p", "--input"],
-        &["run", "p", "--input", ""],
-        &["run", "p", "--input=f"],
-        &["run", "p", "--inputs", "f"],
-        &["run", "p", "-input", "f"],
-        &["run", "p", "--INPUT", "f"],
-        &["run", "p", "", "f"],
-        &["run", "p", "--input", "f", "--input", "f"],
-        &["run", "p", "--budget", "1", "--input", "f", "--budget", "1"],
-        &["run", "p", "--budget"],
-        &["run", "p", "--budget", ""],
-        &["run", "p", "--budget", "0"],
-        &["run", "p", "--budget", "01"],
-        &["run", "p", "--budget", "+1"],
-        &["run", "p", "--budget", "-1"],
-        &["run", "p", "--budget", "1000000000001"],
-        &["run", "p", "--budget", "18446744073709551617"],
-        &["run", "p", "--budget", "100000000000000000001"],
-        &["run", "p", "--budget", "f", "--input", "1"],
-        &["run", "p", "--input", "f", "--budget", "1", "more"],
-        &["run", "p", "--image", "i"],
-        &["run", "p", "--image", "", "--report", "r"],
-        &["run", "p", "--image", "i", "--report", ""],
-        &["run", "p", "--slaves", "0"],
-        &["run", "p", "--slaves", "65"],
-        &["show"],
-        &["show", ""],
-        &["show", "f", "g"],
-        &["show", "f", "--input", "g"],
-        &["shows", "f"],
-        &["replay"],
-        &["replay", "p"],
-        &["replay", "p", "i"],
-        &["replay", "", "i", "e"],
-        &["replay", "p", "", "e"],
-        &["replay", "p", "i", ""],
-        &["replay", "p", "i", "e", "--slaves"],
-        &["replay", "p", "i", "e", "--slaves", "0"],
-        &["replay", "p", "i", "e", "--slaves", "65"],
-        &["replay", "p", "i", "e", "--slaves", "04"],
-        &["replay", "p", "i", "e", "--slaves", "4", "--slaves", "4"],
-        &["replay", "p", "i", "e", "--budget", "1"],
-        &["profile", "p"],
-        &["profile", "", "o"],
-        &["profile", "p", ""],
-        &["profile", "p", "o", "--budget", "0"],
-        &["profile", "p", "o", "--budget", "1000000000001"],
-        &["profile", "p", "o", "--slaves", "4"],
-        &["check", "p"],
-        &["check", "p", "i", "--report", "r"],
-        &["check", "p", "i", "--budget", "1", "--budget", "1"],
-        &["distill", "p", "f"],
-        &["distill", "", "f", "o"],
-        &["distill", "p", "", "o"],
-        &["distill", "p", "f", ""],
-        &["distill", "p", "f", "o", "--rare", "101"],
-        &["distill", "p", "f", "o", "--hot", "0"],
-        &["distill", "p", "f", "o", "--hot", "1000000000001"],
-        &["distill", "p", "f", "o", "--goal", "0"],
-        &["distill", "p", "f", "o", "--goal", "65537"],
-        &["distill", "p", "f", "o", "--limit", "15"],
-        &["distill", "p", "f", "o", "--limit", "16385"],
-        &["distill", "p", "f", "o", "--rare", "00"],
-        &["distill", "p", "f", "o", "--input", "i"],
-    ];
-    for texts in cases {
-        let words = words_of(rt.alloc(), texts)?;
-        assert_eq!(rt; read_command(&words), None, "at {texts:?}");
-    }
-    Ok(())
-}
+static NUMBERS: [(&str, Option<u64>); 23] = [
+    ("0", Some(0)),
+    ("7", Some(7)),
+    ("10", Some(10)),
+    ("1234567890", Some(1_234_567_890)),
+    ("9999999999999999999", Some(9_999_999_999_999_999_999)),
+    ("18446744073709551615", Some(u64::MAX)),
+    ("18446744073709551616", None),
+    ("99999999999999999999", None),
+    ("100000000000000000000", None),
+    ("00000000000000000001", None),
+    ("", None),
+    ("00", None),
+    ("+7", None),
+    ("-0", None),
+    (" 7", None),
+    ("7 ", None),
+    ("1_000", None),
+    ("1,000", None),
+    ("0x10", None),
+    ("1e3", None),
+    ("1.0", None),
+    ("\u{0661}", None),
+    ("\u{ff11}", None),
+];
 
 #[test]
 fn reads_numbers(rt: HostRuntime) {
-    let cases = [
-        ("0", Some(0)),
-        ("7", Some(7)),
-        ("10", Some(10)),
-        ("1234567890", Some(1_234_567_890)),
-        ("9999999999999999999", Some(9_999_999_999_999_999_999)),
-        ("18446744073709551615", Some(u64::MAX)),
-        ("18446744073709551616", None),
-        ("99999999999999999999", None),
-        ("100000000000000000000", None),
-        ("00000000000000000001", None),
-        ("", None),
-        ("00", None),
-        ("+7", None),
-        ("-0", None),
-        (" 7", None),
-        ("7 ", None),
-        ("1_000", None),
-        ("1,000", None),
-        ("0x10", None),
-        ("1e3", None),
-        ("1.0", None),
-        ("\u{0661}", None),
-        ("\u{ff11}", None),
-    ];
-    for (word, want) in cases {
+    for &(word, want) in &NUMBERS {
         assert_eq!(rt; read_number(word), want, "at {word:?}");
     }
 }

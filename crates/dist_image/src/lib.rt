@@ -17,6 +17,3 @@ pub use image::{Anchor, Assumption, Image, Note, Slot, empty_image};
 pub use lookup::{anchor_at, slot_of};
 pub use reading::read_image;
 pub use writing::write_image;
-
-#[cfg(test)]
-mod tests;

@@ -16,8 +16,6 @@ ghost use Rattle.cuts.specs.Words.{word_in};
 ghost use Rattle.distiller.specs.Asked.{IsInRange};
 
 mod error;
-#[cfg(test)]
-mod tests;
 mod words;
 
 use crate::words::has_words;

@@ -19,9 +19,6 @@ mod program;
 pub use error::ElfErr;
 pub use program::{Part, Program, word_at};
 
-#[cfg(test)]
-mod tests;
-
 use crate::acceptance::accept;
 use crate::build::{first_break, parts_of};
 use std::alloc::Global;

@@ -11,8 +11,6 @@ mod counting;
 mod engine;
 mod queue;
 mod stage;
-#[cfg(test)]
-mod tests;
 
 pub use cells::{Cell, Differ, End};
 pub use engine::Engine;

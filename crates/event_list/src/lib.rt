@@ -16,6 +16,3 @@ pub use error::EventErr;
 pub use reading::read_events;
 pub use rounds::round;
 pub use speculation::Event;
-
-#[cfg(test)]
-mod tests;

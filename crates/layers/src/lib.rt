@@ -5,8 +5,6 @@
 #![tactic(auto)]
 
 mod notes;
-#[cfg(test)]
-mod tests;
 mod view;
 
 pub use cells::{Cell, Differ};

@@ -4,8 +4,6 @@
 #![tactic(auto)]
 
 mod master;
-#[cfg(test)]
-mod tests;
 mod word;
 
 pub use master::{Master, MasterDid};

@@ -8,8 +8,6 @@ ghost use Rattle.cells.specs.Bytes.{number, after_puts};
 mod directory;
 mod page;
 mod plain;
-#[cfg(test)]
-mod tests;
 
 pub use plain::PlainMemory;
 use std::alloc::{AllocError, Global};

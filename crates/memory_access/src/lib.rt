@@ -7,8 +7,6 @@
 mod instruction;
 mod shadow;
 mod span;
-#[cfg(test)]
-mod tests;
 
 pub use instruction::{is_store, is_taken, loaded, register, stored};
 pub use shadow::Shadow;

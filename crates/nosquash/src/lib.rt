@@ -8,8 +8,6 @@
 ghost use Rattle.nosquash.specs.Laws.{RunsLoseNothing};
 
 mod pair;
-#[cfg(test)]
-mod tests;
 
 pub use engine::{Effect, Engine, Event};
 pub use pair::Pair;

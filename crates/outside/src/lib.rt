@@ -15,8 +15,6 @@
 mod memory;
 mod schedule;
 mod sure;
-#[cfg(test)]
-mod tests;
 
 ghost use Rattle.std.specs.Prelude.{◌≡◌, ℕ, List, Option};
 ghost use Rattle.outside.specs.Answers.{PutAnswers, ReadAnswers, WriteAnswers};

@@ -16,6 +16,3 @@ pub use error::ProfileErr;
 pub use profile::{Profile, Row};
 pub use reading::read_profile;
 pub use writing::write_profile;
-
-#[cfg(test)]
-mod tests;

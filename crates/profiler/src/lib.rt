@@ -14,6 +14,3 @@ mod visit;
 
 pub use error::ProfilingErr;
 pub use profiling::profile;
-
-#[cfg(test)]
-mod tests;

@@ -11,9 +11,6 @@ ghost use Rattle.rv_word.specs.declared.inst.RegOp.TheVariants.{Add, Sll, Slt, S
 
 use rv_word::RegOp;
 
-#[cfg(test)]
-mod tests;
-
 #[inline(always)]
 fn sll(a: u32, b: u32) -> u32
     ensures { result ≡ alu Sll a b }

@@ -16,8 +16,6 @@ mod masks;
 mod opcodes;
 mod ranges;
 mod tables;
-#[cfg(test)]
-mod tests;
 
 pub use constants::constant;
 pub use decoding::decode;

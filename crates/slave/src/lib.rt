@@ -10,8 +10,6 @@ ghost use Rattle.slave.specs.Laws.{CommitsApply, RecordsAgree};
 
 mod did;
 mod task;
-#[cfg(test)]
-mod tests;
 
 pub use did::SlaveDid;
 pub use speculation::Ending;

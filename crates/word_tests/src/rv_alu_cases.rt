@@ -1,6 +1,6 @@
 //! Answers from outside: they were given by a processor model of RISC-V that ran one instruction
 //! for each row.
-use crate::alu;
+use rv_alu::alu;
 use rv_word::RegOp;
 
 /// The operation, the values of its two registers, and the answer.

@@ -2,8 +2,8 @@
 ghost use Rattle.std.specs.Prelude.{◌<◌, length, IfOk};
 ghost use Rattle.dist_image.specs.Image.{IsImage};
 
-use crate::{Master, MasterDid, Why};
 use dist_image::{Anchor, Image, ImageErr, read_image};
+use master::{Master, MasterDid, Why};
 use memory::PlainMemory;
 use rv_step::{Arch, Flow, Memory, View, step};
 use std::alloc::{AllocError, Global};

@@ -2,11 +2,11 @@
 
 ghost use Rattle.std.specs.Prelude.{◌≡◌, length, IfOk};
 
-use super::*;
 use assume_list::Verdict;
 use cells::{Cell, Differ, End};
 use dist_image::{Anchor, Assumption, Image, Note, Slot, empty_image};
 use outside::{MemSink, SinkErr, SureSink};
+use report::{Word, push_end, push_line, push_words, put_effect, put_image, put_verdict};
 use speculation::{Effect, Ending, Why};
 use std::alloc::{AllocError, Global};
 use std::test::Fail;

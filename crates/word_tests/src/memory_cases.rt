@@ -1,5 +1,5 @@
 //! What no clause says: that the calls of a memory succeed, and what they answer at the borders of pages.
-use crate::{Memory, PlainMemory};
+use memory::{Memory, PlainMemory};
 use std::test::Fail;
 
 #[test]

@@ -3,7 +3,7 @@
 ghost use Rattle.std.specs.Prelude.{◌≡◌, Some, IfOk, string_bytes};
 ghost use Rattle.outside.specs.Files.{HasDistinctNames};
 
-use crate::{MemSink, MemStore, Sink, SinkErr, Store, StoreErr, SureSink, SureStore};
+use outside::{MemSink, MemStore, Sink, SinkErr, Store, StoreErr, SureSink, SureStore};
 use std::alloc::{AllocError, Global};
 use std::test::Fail;
 

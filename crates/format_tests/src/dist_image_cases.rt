@@ -1,6 +1,9 @@
 //! Images as bytes, both ways, and each refusal. The bytes of the first image are written out by hand.
 
-use super::*;
+use dist_image::{
+    Anchor, Assumption, ImageErr, Note, Slot, Table, anchor_at, empty_image, read_image, slot_of,
+    write_image,
+};
 use std::alloc::{AllocError, Global};
 use std::test::Fail;
 

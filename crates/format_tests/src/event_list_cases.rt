@@ -1,6 +1,6 @@
 //! Files and what they hold, each refusal, and rounds.
 
-use super::*;
+use event_list::{Event, EventErr, read_events, round};
 use std::alloc::Global;
 use std::test::Fail;
 

@@ -1,6 +1,6 @@
 //! Files that are refused and accepted, with answers from outside.
 
-use super::*;
+use elf_reader::{ElfErr, read_elf, word_at};
 use std::alloc::{AllocError, Global};
 use std::test::Fail;
 

@@ -3,11 +3,11 @@
 ghost use Rattle.std.specs.Prelude.{IfOk};
 ghost use Rattle.dist_image.specs.Image.{IsImage, IsAnchor};
 
-use crate::{Ending, SlaveDid, Task};
 use cells::{Cell, Differ};
 use dist_image::{Anchor, Image, read_image};
 use memory::PlainMemory;
 use rv_step::{Arch, Flow, Memory, View, step};
+use slave::{Ending, SlaveDid, Task};
 use std::alloc::{AllocError, Global};
 use std::test::Fail;
 

@@ -3,11 +3,11 @@ ghost use Rattle.std.specs.Prelude.{IfOk};
 ghost use Rattle.elf_reader.specs.Executable.{IsProgram};
 ghost use Rattle.dist_image.specs.Image.{IsImage};
 
-use crate::Pair;
 use dist_image::{Image, read_image};
 use elf_reader::{Program, read_elf};
 use engine::{Effect, End, Ending, Engine, Event};
 use memory::PlainMemory;
+use nosquash::Pair;
 use seq_machine::load;
 use std::alloc::Global;
 use std::test::Fail;

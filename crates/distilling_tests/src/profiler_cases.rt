@@ -3,9 +3,9 @@
 ghost use Rattle.std.specs.Prelude.{IfOk};
 ghost use Rattle.elf_reader.specs.Executable.{IsProgram};
 
-use crate::profile;
 use elf_reader::{Program, read_elf};
 use profile_data::{Profile, Row};
+use profiler::profile;
 use std::alloc::{AllocError, Global};
 use std::test::Fail;
 
@@ -155,7 +155,7 @@ fn a_read_ends_a_stores_claim(rt: HostRuntime) -> Result<(), Fail> {
         Some((0x1_0008, 1, 0, false, false))
     );
     // without input nothing is put, and the load reads what the store put
-    let profile = crate::profile(rt.alloc(), &program, Vec::new(rt.alloc()), 7)?;
+    let profile = profiler::profile(rt.alloc(), &program, Vec::new(rt.alloc()), 7)?;
     assert_eq!(rt;
         row_counts(&profile, 2),
         Some((0x1_0008, 1, 0, true, false))

@@ -1,8 +1,8 @@
 //! Profiles as bytes, both ways, and each refusal. Numbers that follow a magic number stand for a file
 //! of them, the lowest byte of each first.
 
-use super::*;
 use indexmap::IndexMap;
+use profile_data::{Profile, ProfileErr, read_profile, write_profile};
 use std::alloc::{AllocError, Global};
 use std::test::Fail;
 

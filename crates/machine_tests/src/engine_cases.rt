@@ -1,9 +1,9 @@
 //! What no clause says: that the calls of an engine succeed, and what events worked out by hand do.
 ghost use Rattle.std.specs.Prelude.{◌≤◌};
 
-use crate::{End, Engine, Event, Mode};
 use dist_image::read_image;
 use elf_reader::read_elf;
+use engine::{End, Engine, Event, Mode};
 use memory::PlainMemory;
 use seq_machine::{Machine, load};
 use std::alloc::{AllocError, Global};

@@ -1,7 +1,7 @@
 //! What no clause says: that the calls of a shadow succeed, and what they answer at borders of words.
 
-use crate::{Shadow, Span};
 use memory::PlainMemory;
+use memory_access::{Shadow, Span};
 use std::alloc::{AllocError, Global};
 use std::test::Fail;
 

@@ -1,0 +1,11 @@
+//! Profiles, masks and images of small programs: tests of `memory_access`, `profiler`, `liveness` and `distiller`.
+#![tactic(auto)]
+
+#[cfg(test)]
+mod distiller_cases;
+#[cfg(test)]
+mod liveness_cases;
+#[cfg(test)]
+mod memory_access_cases;
+#[cfg(test)]
+mod profiler_cases;
