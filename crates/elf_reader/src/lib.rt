@@ -16,11 +16,10 @@ mod error;
 mod header;
 mod program;
 
-pub use error::ElfErr;
-pub use program::{Part, Program, word_at};
-
 use crate::acceptance::accept;
 use crate::build::{first_break, parts_of};
+pub use error::ElfErr;
+pub use program::{Part, Program, word_at};
 use std::alloc::Global;
 
 /// Reads the program of an ELF file.

@@ -149,120 +149,121 @@ fn reads_ten_turns(rt: HostRuntime) -> Result<(), Fail> {
     Ok(())
 }
 
+static ANSWERS_THE_FIRST_REFUSAL_CASES: [(&[u32], ImageErr); 34] = [
+    (&[MAGIC, 1, 16, 0, 0, 0], ImageErr::Short),
+    (&[MAGIC + 1, 2, 15, 0, 0, 0, 0], ImageErr::Magic),
+    (&[MAGIC, 2, 15, 0, 0, 0, 0], ImageErr::Version),
+    (&[MAGIC, 1, 15, 0, 0, 0, 0], ImageErr::Limit),
+    (&[MAGIC, 1, 16_385, 0, 0, 0, 0], ImageErr::Limit),
+    (
+        &[MAGIC, 1, 16, 1_048_577, 524_289, 0, 0],
+        ImageErr::TooMany(Table::Slots),
+    ),
+    (
+        &[MAGIC, 1, 16, 1_048_576, 524_289, 524_289, 0],
+        ImageErr::TooMany(Table::Anchors),
+    ),
+    (
+        &[MAGIC, 1, 16, 0, 0, 524_289, u32::MAX],
+        ImageErr::TooMany(Table::Notes),
+    ),
+    (
+        &[MAGIC, 1, 16, 0, 0, 0, u32::MAX],
+        ImageErr::TooMany(Table::Assumptions),
+    ),
+    (&[MAGIC, 1, 16, 1_048_576, 0, 0, 0], ImageErr::Short),
+    (
+        &[MAGIC, 1, 16, 1, 0, 0, 0, 3, 0, 0],
+        ImageErr::Kind(Table::Slots, 0),
+    ),
+    (
+        &[MAGIC, 1, 16, 1, 0, 0, 0, 1, 0, 1],
+        ImageErr::Kind(Table::Slots, 0),
+    ),
+    (
+        &[MAGIC, 1, 16, 1, 0, 0, 0, 0, 2, 0],
+        ImageErr::Range(Table::Slots, 0),
+    ),
+    (
+        &[MAGIC, 1, 16, 1, 0, 0, 0, 2, 0, 0],
+        ImageErr::Range(Table::Slots, 0),
+    ),
+    (
+        &[MAGIC, 1, 16, 1, 1, 0, 0, 1, 0, 0, 4, 1, 1],
+        ImageErr::Range(Table::Anchors, 0),
+    ),
+    (
+        &[MAGIC, 1, 16, 1, 1, 0, 0, 1, 0, 0, 4, 0, 0],
+        ImageErr::Range(Table::Anchors, 0),
+    ),
+    (
+        &[MAGIC, 1, 16, 1, 1, 0, 0, 1, 0, 0, 4, 0, 65],
+        ImageErr::Range(Table::Anchors, 0),
+    ),
+    (
+        &[MAGIC, 1, 16, 1, 2, 0, 0, 1, 0, 0, 4, 0, 64, 4, 0, 1],
+        ImageErr::Order(Table::Anchors, 1),
+    ),
+    (
+        &[MAGIC, 1, 16, 1, 0, 1, 0, 1, 0, 0, 2, 0, 0, 0],
+        ImageErr::Range(Table::Notes, 0),
+    ),
+    (
+        &[MAGIC, 1, 16, 1, 0, 1, 0, 1, 0, 0, 4, 0, 1, 0],
+        ImageErr::Range(Table::Notes, 0),
+    ),
+    (
+        &[MAGIC, 1, 16, 1, 0, 1, 0, 1, 0, 0, 4, 0, 2, 3],
+        ImageErr::Range(Table::Notes, 0),
+    ),
+    (
+        &[MAGIC, 1, 16, 0, 0, 0, 1, 6, 0, 0, 0],
+        ImageErr::Kind(Table::Assumptions, 0),
+    ),
+    (
+        &[MAGIC, 1, 16, 0, 0, 0, 1, 0, 4, 2, 0],
+        ImageErr::Kind(Table::Assumptions, 0),
+    ),
+    (
+        &[MAGIC, 1, 16, 0, 0, 0, 1, 2, 4, 0, 1],
+        ImageErr::Kind(Table::Assumptions, 0),
+    ),
+    (
+        &[MAGIC, 1, 16, 0, 0, 0, 1, 3, 4, 0, 0],
+        ImageErr::Kind(Table::Assumptions, 0),
+    ),
+    (
+        &[MAGIC, 1, 16, 0, 0, 0, 1, 0, 2, 1, 0],
+        ImageErr::Range(Table::Assumptions, 0),
+    ),
+    (
+        &[MAGIC, 1, 16, 0, 0, 0, 2, 3, 0, 0, 0, 2, 4, 0, 0],
+        ImageErr::Order(Table::Assumptions, 1),
+    ),
+    (
+        &[MAGIC, 1, 16, 0, 0, 0, 1, 1, 4, 0, u32::MAX],
+        ImageErr::TooMany(Table::Targets),
+    ),
+    (
+        &[MAGIC, 1, 16, 0, 0, 0, 1, 1, 4, 0, 1_048_576],
+        ImageErr::Short,
+    ),
+    (&[MAGIC, 1, 16, 0, 0, 0, 1, 1, 4, 0, 2, 3], ImageErr::Short),
+    (
+        &[MAGIC, 1, 16, 0, 0, 0, 1, 1, 4, 0, 2, 8, 2],
+        ImageErr::Range(Table::Targets, 0),
+    ),
+    (
+        &[MAGIC, 1, 16, 0, 0, 0, 1, 1, 4, 0, 2, 8, 8],
+        ImageErr::Order(Table::Targets, 0),
+    ),
+    (&[MAGIC, 1, 16, 0, 0, 0, 1, 1, 4, 0, 0, 8], ImageErr::Long),
+    (&[MAGIC, 1, 16, 0, 0, 0, 0, 0], ImageErr::Long),
+];
+
 #[test]
 fn answers_the_first_refusal(rt: HostRuntime) -> Result<(), Fail> {
-    let cases: [(&[u32], ImageErr); 34] = [
-        (&[MAGIC, 1, 16, 0, 0, 0], ImageErr::Short),
-        (&[MAGIC + 1, 2, 15, 0, 0, 0, 0], ImageErr::Magic),
-        (&[MAGIC, 2, 15, 0, 0, 0, 0], ImageErr::Version),
-        (&[MAGIC, 1, 15, 0, 0, 0, 0], ImageErr::Limit),
-        (&[MAGIC, 1, 16_385, 0, 0, 0, 0], ImageErr::Limit),
-        (
-            &[MAGIC, 1, 16, 1_048_577, 524_289, 0, 0],
-            ImageErr::TooMany(Table::Slots),
-        ),
-        (
-            &[MAGIC, 1, 16, 1_048_576, 524_289, 524_289, 0],
-            ImageErr::TooMany(Table::Anchors),
-        ),
-        (
-            &[MAGIC, 1, 16, 0, 0, 524_289, u32::MAX],
-            ImageErr::TooMany(Table::Notes),
-        ),
-        (
-            &[MAGIC, 1, 16, 0, 0, 0, u32::MAX],
-            ImageErr::TooMany(Table::Assumptions),
-        ),
-        (&[MAGIC, 1, 16, 1_048_576, 0, 0, 0], ImageErr::Short),
-        (
-            &[MAGIC, 1, 16, 1, 0, 0, 0, 3, 0, 0],
-            ImageErr::Kind(Table::Slots, 0),
-        ),
-        (
-            &[MAGIC, 1, 16, 1, 0, 0, 0, 1, 0, 1],
-            ImageErr::Kind(Table::Slots, 0),
-        ),
-        (
-            &[MAGIC, 1, 16, 1, 0, 0, 0, 0, 2, 0],
-            ImageErr::Range(Table::Slots, 0),
-        ),
-        (
-            &[MAGIC, 1, 16, 1, 0, 0, 0, 2, 0, 0],
-            ImageErr::Range(Table::Slots, 0),
-        ),
-        (
-            &[MAGIC, 1, 16, 1, 1, 0, 0, 1, 0, 0, 4, 1, 1],
-            ImageErr::Range(Table::Anchors, 0),
-        ),
-        (
-            &[MAGIC, 1, 16, 1, 1, 0, 0, 1, 0, 0, 4, 0, 0],
-            ImageErr::Range(Table::Anchors, 0),
-        ),
-        (
-            &[MAGIC, 1, 16, 1, 1, 0, 0, 1, 0, 0, 4, 0, 65],
-            ImageErr::Range(Table::Anchors, 0),
-        ),
-        (
-            &[MAGIC, 1, 16, 1, 2, 0, 0, 1, 0, 0, 4, 0, 64, 4, 0, 1],
-            ImageErr::Order(Table::Anchors, 1),
-        ),
-        (
-            &[MAGIC, 1, 16, 1, 0, 1, 0, 1, 0, 0, 2, 0, 0, 0],
-            ImageErr::Range(Table::Notes, 0),
-        ),
-        (
-            &[MAGIC, 1, 16, 1, 0, 1, 0, 1, 0, 0, 4, 0, 1, 0],
-            ImageErr::Range(Table::Notes, 0),
-        ),
-        (
-            &[MAGIC, 1, 16, 1, 0, 1, 0, 1, 0, 0, 4, 0, 2, 3],
-            ImageErr::Range(Table::Notes, 0),
-        ),
-        (
-            &[MAGIC, 1, 16, 0, 0, 0, 1, 6, 0, 0, 0],
-            ImageErr::Kind(Table::Assumptions, 0),
-        ),
-        (
-            &[MAGIC, 1, 16, 0, 0, 0, 1, 0, 4, 2, 0],
-            ImageErr::Kind(Table::Assumptions, 0),
-        ),
-        (
-            &[MAGIC, 1, 16, 0, 0, 0, 1, 2, 4, 0, 1],
-            ImageErr::Kind(Table::Assumptions, 0),
-        ),
-        (
-            &[MAGIC, 1, 16, 0, 0, 0, 1, 3, 4, 0, 0],
-            ImageErr::Kind(Table::Assumptions, 0),
-        ),
-        (
-            &[MAGIC, 1, 16, 0, 0, 0, 1, 0, 2, 1, 0],
-            ImageErr::Range(Table::Assumptions, 0),
-        ),
-        (
-            &[MAGIC, 1, 16, 0, 0, 0, 2, 3, 0, 0, 0, 2, 4, 0, 0],
-            ImageErr::Order(Table::Assumptions, 1),
-        ),
-        (
-            &[MAGIC, 1, 16, 0, 0, 0, 1, 1, 4, 0, u32::MAX],
-            ImageErr::TooMany(Table::Targets),
-        ),
-        (
-            &[MAGIC, 1, 16, 0, 0, 0, 1, 1, 4, 0, 1_048_576],
-            ImageErr::Short,
-        ),
-        (&[MAGIC, 1, 16, 0, 0, 0, 1, 1, 4, 0, 2, 3], ImageErr::Short),
-        (
-            &[MAGIC, 1, 16, 0, 0, 0, 1, 1, 4, 0, 2, 8, 2],
-            ImageErr::Range(Table::Targets, 0),
-        ),
-        (
-            &[MAGIC, 1, 16, 0, 0, 0, 1, 1, 4, 0, 2, 8, 8],
-            ImageErr::Order(Table::Targets, 0),
-        ),
-        (&[MAGIC, 1, 16, 0, 0, 0, 1, 1, 4, 0, 0, 8], ImageErr::Long),
-        (&[MAGIC, 1, 16, 0, 0, 0, 0, 0], ImageErr::Long),
-    ];
-    for (numbers, want) in cases {
+    for &(numbers, want) in &ANSWERS_THE_FIRST_REFUSAL_CASES {
         let bytes = bytes_of(rt.alloc(), numbers)?;
         assert_eq!(rt;
             read_image(rt.alloc(), &bytes).err(),

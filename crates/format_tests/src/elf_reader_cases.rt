@@ -92,31 +92,32 @@ fn changed(
     Ok(bytes)
 }
 
+static ANSWERS_THE_FIRST_REFUSAL_CASES: [(usize, &[(usize, u8)], ElfErr); 20] = [
+    (0, &[], ElfErr::Short),
+    (51, &[], ElfErr::Short),
+    (83, &[], ElfErr::Table),
+    (84, &[], ElfErr::Outside(0)),
+    (96, &[(3, b'f')], ElfErr::Magic),
+    (96, &[(4, 2)], ElfErr::Class),
+    (96, &[(5, 2)], ElfErr::Endian),
+    (96, &[(6, 0)], ElfErr::Version),
+    (96, &[(16, 3)], ElfErr::Kind),
+    (96, &[(19, 1)], ElfErr::Machine),
+    (96, &[(36, 1)], ElfErr::Flags),
+    (96, &[(36, 8)], ElfErr::Flags),
+    (96, &[(24, 2)], ElfErr::Entry),
+    (96, &[(42, 31)], ElfErr::Table),
+    (96, &[(52, 3)], ElfErr::Interp),
+    (96, &[(68, 13)], ElfErr::Outside(0)),
+    (96, &[(72, 11)], ElfErr::Larger(0)),
+    (96, &[(61, 0xF0), (62, 0xFF), (63, 0xFF)], ElfErr::Wraps(0)),
+    (96, &[(24, 2), (42, 31)], ElfErr::Entry),
+    (96, &[(63, 0xFF), (62, 0xFF), (72, 11)], ElfErr::Larger(0)),
+];
+
 #[test]
 fn answers_the_first_refusal(rt: HostRuntime) -> Result<(), Fail> {
-    let cases: [(usize, &[(usize, u8)], ElfErr); 20] = [
-        (0, &[], ElfErr::Short),
-        (51, &[], ElfErr::Short),
-        (83, &[], ElfErr::Table),
-        (84, &[], ElfErr::Outside(0)),
-        (96, &[(3, b'f')], ElfErr::Magic),
-        (96, &[(4, 2)], ElfErr::Class),
-        (96, &[(5, 2)], ElfErr::Endian),
-        (96, &[(6, 0)], ElfErr::Version),
-        (96, &[(16, 3)], ElfErr::Kind),
-        (96, &[(19, 1)], ElfErr::Machine),
-        (96, &[(36, 1)], ElfErr::Flags),
-        (96, &[(36, 8)], ElfErr::Flags),
-        (96, &[(24, 2)], ElfErr::Entry),
-        (96, &[(42, 31)], ElfErr::Table),
-        (96, &[(52, 3)], ElfErr::Interp),
-        (96, &[(68, 13)], ElfErr::Outside(0)),
-        (96, &[(72, 11)], ElfErr::Larger(0)),
-        (96, &[(61, 0xF0), (62, 0xFF), (63, 0xFF)], ElfErr::Wraps(0)),
-        (96, &[(24, 2), (42, 31)], ElfErr::Entry),
-        (96, &[(63, 0xFF), (62, 0xFF), (72, 11)], ElfErr::Larger(0)),
-    ];
-    for (length, changes, want) in cases {
+    for &(length, changes, want) in &ANSWERS_THE_FIRST_REFUSAL_CASES {
         let file = changed(rt.alloc(), &EXIT_7, length, changes)?;
         assert_eq!(rt;
             read_elf(rt.alloc(), &file).err(),

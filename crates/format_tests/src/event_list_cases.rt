@@ -4,36 +4,37 @@ use event_list::{Event, EventErr, read_events, round};
 use std::alloc::Global;
 use std::test::Fail;
 
+static READS_LISTS_CASES: [(&[u8], &[(u32, Event)]); 13] = [
+    (b"", &[]),
+    (b"\n", &[]),
+    (b"\n\n", &[]),
+    (b"#", &[]),
+    (b"# 1 master\n#\n", &[]),
+    (b"#\xFF\r\n\n2 serial", &[(2, Event::Serial)]),
+    (b"1 master\n", &[(1, Event::Master)]),
+    (b"1 master", &[(1, Event::Master)]),
+    (
+        b"1 commit\n1 slave 0\n1 master",
+        &[(1, Event::Commit), (1, Event::Slave(0)), (1, Event::Master)],
+    ),
+    (
+        b"7 restart\n\n10 slave 63\n",
+        &[(7, Event::Restart), (10, Event::Slave(63))],
+    ),
+    (b"100000000 slave 9\n", &[(100_000_000, Event::Slave(9))]),
+    (
+        b"99999999 commit\n# full\n1 serial",
+        &[(99_999_999, Event::Commit), (1, Event::Serial)],
+    ),
+    (
+        b"1 master\n1 master\n",
+        &[(1, Event::Master), (1, Event::Master)],
+    ),
+];
+
 #[test]
 fn reads_lists(rt: HostRuntime) -> Result<(), Fail> {
-    let cases: [(&[u8], &[(u32, Event)]); 13] = [
-        (b"", &[]),
-        (b"\n", &[]),
-        (b"\n\n", &[]),
-        (b"#", &[]),
-        (b"# 1 master\n#\n", &[]),
-        (b"#\xFF\r\n\n2 serial", &[(2, Event::Serial)]),
-        (b"1 master\n", &[(1, Event::Master)]),
-        (b"1 master", &[(1, Event::Master)]),
-        (
-            b"1 commit\n1 slave 0\n1 master",
-            &[(1, Event::Commit), (1, Event::Slave(0)), (1, Event::Master)],
-        ),
-        (
-            b"7 restart\n\n10 slave 63\n",
-            &[(7, Event::Restart), (10, Event::Slave(63))],
-        ),
-        (b"100000000 slave 9\n", &[(100_000_000, Event::Slave(9))]),
-        (
-            b"99999999 commit\n# full\n1 serial",
-            &[(99_999_999, Event::Commit), (1, Event::Serial)],
-        ),
-        (
-            b"1 master\n1 master\n",
-            &[(1, Event::Master), (1, Event::Master)],
-        ),
-    ];
-    for (file, want) in cases {
+    for &(file, want) in &READS_LISTS_CASES {
         let events = read_events(rt.alloc(), file)?;
         assert_eq!(rt; events.as_slice(), want, "{file:?}");
     }
@@ -117,25 +118,26 @@ fn refuses_words_and_spaces(rt: HostRuntime) {
     }
 }
 
+static ANSWERS_THE_FIRST_REFUSAL_CASES: [(&[u8], EventErr); 11] = [
+    (b"\n0 master", EventErr::Line(2)),
+    (b"#\n\n1 master\nx\nx\n", EventErr::Line(4)),
+    (b"1 master\r\n1 commit\r\n", EventErr::Line(1)),
+    (b"1 master\n\xFF\n", EventErr::Line(2)),
+    (b"100000000 master\n1 commit\n", EventErr::TooMany(2)),
+    (b"100000000 master\n\n1 commit\nx\n", EventErr::TooMany(3)),
+    (b"100000000 master\nx\n1 commit\n", EventErr::Line(2)),
+    (b"60000000 master\n100000001 commit\n", EventErr::Line(2)),
+    (
+        b"60000000 master\n40000000 commit\n1 serial\n1 serial",
+        EventErr::TooMany(3),
+    ),
+    (b"60000000 master\n40000001 commit", EventErr::TooMany(2)),
+    (b"100000000 master\n4294967296 commit", EventErr::Line(2)),
+];
+
 #[test]
 fn answers_the_first_refusal(rt: HostRuntime) {
-    let cases: [(&[u8], EventErr); 11] = [
-        (b"\n0 master", EventErr::Line(2)),
-        (b"#\n\n1 master\nx\nx\n", EventErr::Line(4)),
-        (b"1 master\r\n1 commit\r\n", EventErr::Line(1)),
-        (b"1 master\n\xFF\n", EventErr::Line(2)),
-        (b"100000000 master\n1 commit\n", EventErr::TooMany(2)),
-        (b"100000000 master\n\n1 commit\nx\n", EventErr::TooMany(3)),
-        (b"100000000 master\nx\n1 commit\n", EventErr::Line(2)),
-        (b"60000000 master\n100000001 commit\n", EventErr::Line(2)),
-        (
-            b"60000000 master\n40000000 commit\n1 serial\n1 serial",
-            EventErr::TooMany(3),
-        ),
-        (b"60000000 master\n40000001 commit", EventErr::TooMany(2)),
-        (b"100000000 master\n4294967296 commit", EventErr::Line(2)),
-    ];
-    for (file, want) in cases {
+    for &(file, want) in &ANSWERS_THE_FIRST_REFUSAL_CASES {
         assert_eq!(rt; refusal(rt.alloc(), file), Some(want), "{file:?}");
     }
 }

@@ -128,21 +128,22 @@ fn a_prefix_ends_early(rt: HostRuntime) -> Result<(), Fail> {
     Ok(())
 }
 
+static REFUSES_HEADERS_CASES: [(&[u32], ProfileErr); 10] = [
+    (&[MAGIC + 1, 2, 0, 0, 2], ProfileErr::Short),
+    (&[MAGIC + 1, 2, 0, 0, 2, ALL], ProfileErr::Magic),
+    (&[MAGIC, 2, 0, 0, 2, ALL], ProfileErr::Version),
+    (&[MAGIC, 0, 0, 0, 0, 0], ProfileErr::Version),
+    (&[MAGIC, 1, 0, 0, 2, ALL], ProfileErr::Mark),
+    (&[MAGIC, 1, 0, 0, 0, 524_289], ProfileErr::TooMany),
+    (&[MAGIC, 1, 0, 0, 0, ALL], ProfileErr::TooMany),
+    (&[MAGIC, 1, 0, 0, 0, 524_288], ProfileErr::Short),
+    (&[MAGIC, 1, 1, 0, 0, 0], ProfileErr::Sum),
+    (&[MAGIC, 1, 0, 0, 1, 0, 0], ProfileErr::Long),
+];
+
 #[test]
 fn refuses_headers(rt: HostRuntime) -> Result<(), Fail> {
-    let cases: [(&[u32], ProfileErr); 10] = [
-        (&[MAGIC + 1, 2, 0, 0, 2], ProfileErr::Short),
-        (&[MAGIC + 1, 2, 0, 0, 2, ALL], ProfileErr::Magic),
-        (&[MAGIC, 2, 0, 0, 2, ALL], ProfileErr::Version),
-        (&[MAGIC, 0, 0, 0, 0, 0], ProfileErr::Version),
-        (&[MAGIC, 1, 0, 0, 2, ALL], ProfileErr::Mark),
-        (&[MAGIC, 1, 0, 0, 0, 524_289], ProfileErr::TooMany),
-        (&[MAGIC, 1, 0, 0, 0, ALL], ProfileErr::TooMany),
-        (&[MAGIC, 1, 0, 0, 0, 524_288], ProfileErr::Short),
-        (&[MAGIC, 1, 1, 0, 0, 0], ProfileErr::Sum),
-        (&[MAGIC, 1, 0, 0, 1, 0, 0], ProfileErr::Long),
-    ];
-    for (numbers, want) in cases {
+    for &(numbers, want) in &REFUSES_HEADERS_CASES {
         assert_eq!(rt; refusal(rt.alloc(), numbers)?, Some(want), "{numbers:?}");
     }
     Ok(())
@@ -157,40 +158,42 @@ fn row_refusal(alloc: Global, row: &[u32]) -> Result<Option<ProfileErr>, AllocEr
     Ok(read_profile(alloc, &bytes).err())
 }
 
+static REFUSES_ROWS_CASES: [(&[u32], ProfileErr); 14] = [
+    (&[3, 4, 0, 0, 1, 0], ProfileErr::Short),
+    (&[3, 4, 0, 0, 1, 0, ALL], ProfileErr::Kind(0)),
+    (&[4, ALL, 9, 0, 0, 0, 0], ProfileErr::Kind(0)),
+    (&[3, 3, 9, 0, 0, 0, ALL], ProfileErr::Range(0)),
+    (&[4, 0, 0, 0, 0, 0, ALL], ProfileErr::Range(0)),
+    (&[4, 0, 9, 0, 10, 0, 0], ProfileErr::Range(0)),
+    (&[4, 0, 9, 0, 0, 1, 0], ProfileErr::Range(0)),
+    (&[4, 0, 9, 0, 9, 0, 1_048_577], ProfileErr::TooMany),
+    (&[4, 0, 9, 0, 9, 0, ALL], ProfileErr::TooMany),
+    (&[4, 0, 9, 0, 9, 0, 1_048_576], ProfileErr::Short),
+    (&[4, 0, 9, 0, 9, 0, 2, 3], ProfileErr::Short),
+    (&[4, 0, 9, 0, 9, 0, 2, 8, 6], ProfileErr::Range(0)),
+    (&[4, 0, 9, 0, 9, 0, 2, 8, 4], ProfileErr::Order(0)),
+    (&[4, 0, 9, 0, 9, 0, 2, 8, 8], ProfileErr::Order(0)),
+];
+
 #[test]
 fn refuses_rows(rt: HostRuntime) -> Result<(), Fail> {
-    let cases: [(&[u32], ProfileErr); 14] = [
-        (&[3, 4, 0, 0, 1, 0], ProfileErr::Short),
-        (&[3, 4, 0, 0, 1, 0, ALL], ProfileErr::Kind(0)),
-        (&[4, ALL, 9, 0, 0, 0, 0], ProfileErr::Kind(0)),
-        (&[3, 3, 9, 0, 0, 0, ALL], ProfileErr::Range(0)),
-        (&[4, 0, 0, 0, 0, 0, ALL], ProfileErr::Range(0)),
-        (&[4, 0, 9, 0, 10, 0, 0], ProfileErr::Range(0)),
-        (&[4, 0, 9, 0, 0, 1, 0], ProfileErr::Range(0)),
-        (&[4, 0, 9, 0, 9, 0, 1_048_577], ProfileErr::TooMany),
-        (&[4, 0, 9, 0, 9, 0, ALL], ProfileErr::TooMany),
-        (&[4, 0, 9, 0, 9, 0, 1_048_576], ProfileErr::Short),
-        (&[4, 0, 9, 0, 9, 0, 2, 3], ProfileErr::Short),
-        (&[4, 0, 9, 0, 9, 0, 2, 8, 6], ProfileErr::Range(0)),
-        (&[4, 0, 9, 0, 9, 0, 2, 8, 4], ProfileErr::Order(0)),
-        (&[4, 0, 9, 0, 9, 0, 2, 8, 8], ProfileErr::Order(0)),
-    ];
-    for (row, want) in cases {
+    for &(row, want) in &REFUSES_ROWS_CASES {
         assert_eq!(rt; row_refusal(rt.alloc(), row)?, Some(want), "{row:?}");
     }
     Ok(())
 }
 
+static REFUSES_WHAT_COMES_AFTER_A_ROW_CASES: [(&[u32], Option<ProfileErr>); 5] = [
+    (&[4, 3, 9, 0, 9, 0, 0], None),
+    (&[4, 0, 9, 0, 9, 0, 0, 0], Some(ProfileErr::Long)),
+    (&[4, 0, 8, 0, 8, 0, 0], Some(ProfileErr::Sum)),
+    (&[4, 0, 8, 0, 8, 0, 0, 0], Some(ProfileErr::Sum)),
+    (&[4, 0, 9, 1, 8, 0, 0], Some(ProfileErr::Sum)),
+];
+
 #[test]
 fn refuses_what_comes_after_a_row(rt: HostRuntime) -> Result<(), Fail> {
-    let cases: [(&[u32], Option<ProfileErr>); 5] = [
-        (&[4, 3, 9, 0, 9, 0, 0], None),
-        (&[4, 0, 9, 0, 9, 0, 0, 0], Some(ProfileErr::Long)),
-        (&[4, 0, 8, 0, 8, 0, 0], Some(ProfileErr::Sum)),
-        (&[4, 0, 8, 0, 8, 0, 0, 0], Some(ProfileErr::Sum)),
-        (&[4, 0, 9, 1, 8, 0, 0], Some(ProfileErr::Sum)),
-    ];
-    for (row, want) in cases {
+    for &(row, want) in &REFUSES_WHAT_COMES_AFTER_A_ROW_CASES {
         assert_eq!(rt; row_refusal(rt.alloc(), row)?, want, "{row:?}");
     }
     Ok(())

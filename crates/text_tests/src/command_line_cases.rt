@@ -18,45 +18,46 @@ fn is_run(alloc: Global, texts: &[&str], want: &Run<'_>) -> Result<bool, AllocEr
     Ok(read_command(&words) == Some(Command::Run(*want)))
 }
 
+static READS_COMMANDS_CASES: [(&[&str], &str, Option<&str>, u64); 9] = [
+    (&["run", "p"], "p", None, 1_000_000_000),
+    (&["run", "p", "--input", "f"], "p", Some("f"), 1_000_000_000),
+    (&["run", "p", "--budget", "1"], "p", None, 1),
+    (
+        &["run", "p", "--budget", "1000000000000"],
+        "p",
+        None,
+        1_000_000_000_000,
+    ),
+    (
+        &["run", "p", "--input", "f", "--budget", "20"],
+        "p",
+        Some("f"),
+        20,
+    ),
+    (
+        &["run", "p", "--budget", "20", "--input", "f"],
+        "p",
+        Some("f"),
+        20,
+    ),
+    (&["run", "--input"], "--input", None, 1_000_000_000),
+    (
+        &["run", "--budget", "--input", "--budget"],
+        "--budget",
+        Some("--budget"),
+        1_000_000_000,
+    ),
+    (
+        &["run", "run", "--input", "a b"],
+        "run",
+        Some("a b"),
+        1_000_000_000,
+    ),
+];
+
 #[test]
 fn reads_commands(rt: HostRuntime) -> Result<(), Fail> {
-    let cases: [(&[&str], &str, Option<&str>, u64); 9] = [
-        (&["run", "p"], "p", None, 1_000_000_000),
-        (&["run", "p", "--input", "f"], "p", Some("f"), 1_000_000_000),
-        (&["run", "p", "--budget", "1"], "p", None, 1),
-        (
-            &["run", "p", "--budget", "1000000000000"],
-            "p",
-            None,
-            1_000_000_000_000,
-        ),
-        (
-            &["run", "p", "--input", "f", "--budget", "20"],
-            "p",
-            Some("f"),
-            20,
-        ),
-        (
-            &["run", "p", "--budget", "20", "--input", "f"],
-            "p",
-            Some("f"),
-            20,
-        ),
-        (&["run", "--input"], "--input", None, 1_000_000_000),
-        (
-            &["run", "--budget", "--input", "--budget"],
-            "--budget",
-            Some("--budget"),
-            1_000_000_000,
-        ),
-        (
-            &["run", "run", "--input", "a b"],
-            "run",
-            Some("a b"),
-            1_000_000_000,
-        ),
-    ];
-    for (texts, program, input, budget) in cases {
+    for &(texts, program, input, budget) in &READS_COMMANDS_CASES {
         let want = Run {
             program,
             image: None,
@@ -70,24 +71,25 @@ fn reads_commands(rt: HostRuntime) -> Result<(), Fail> {
     Ok(())
 }
 
+static READS_RUNS_WITH_A_REPORT_CASES: [(&[&str], Option<&str>, Option<&str>, u8); 6] = [
+    (&["--report", "r"], None, Some("r"), 4),
+    (&["--slaves", "64"], None, None, 64),
+    (&["--slaves", "1", "--report", "r"], None, Some("r"), 1),
+    (&["--image", "i", "--report", "r"], Some("i"), Some("r"), 4),
+    (&["--report", "r", "--image", "r"], Some("r"), Some("r"), 4),
+    (
+        &[
+            "--report", "--image", "--image", "--report", "--slaves", "9",
+        ],
+        Some("--report"),
+        Some("--image"),
+        9,
+    ),
+];
+
 #[test]
 fn reads_runs_with_a_report(rt: HostRuntime) -> Result<(), Fail> {
-    let cases: [(&[&str], Option<&str>, Option<&str>, u8); 6] = [
-        (&["--report", "r"], None, Some("r"), 4),
-        (&["--slaves", "64"], None, None, 64),
-        (&["--slaves", "1", "--report", "r"], None, Some("r"), 1),
-        (&["--image", "i", "--report", "r"], Some("i"), Some("r"), 4),
-        (&["--report", "r", "--image", "r"], Some("r"), Some("r"), 4),
-        (
-            &[
-                "--report", "--image", "--image", "--report", "--slaves", "9",
-            ],
-            Some("--report"),
-            Some("--image"),
-            9,
-        ),
-    ];
-    for (options, image, report, slaves) in cases {
+    for &(options, image, report, slaves) in &READS_RUNS_WITH_A_REPORT_CASES {
         let mut words = words_of(rt.alloc(), &["run", "p"])?;
         for option in options {
             words.push(String::from_str(rt.alloc(), option)?)?;
@@ -118,20 +120,21 @@ fn reads_the_name_of_an_image(rt: HostRuntime) -> Result<(), Fail> {
     Ok(())
 }
 
+static READS_REPLAYS_CASES: [(&[&str], Option<&str>, u8); 5] = [
+    (&[], None, 4),
+    (&["--slaves", "1"], None, 1),
+    (&["--slaves", "64"], None, 64),
+    (&["--input", "f"], Some("f"), 4),
+    (
+        &["--slaves", "20", "--input", "--slaves"],
+        Some("--slaves"),
+        20,
+    ),
+];
+
 #[test]
 fn reads_replays(rt: HostRuntime) -> Result<(), Fail> {
-    let cases: [(&[&str], Option<&str>, u8); 5] = [
-        (&[], None, 4),
-        (&["--slaves", "1"], None, 1),
-        (&["--slaves", "64"], None, 64),
-        (&["--input", "f"], Some("f"), 4),
-        (
-            &["--slaves", "20", "--input", "--slaves"],
-            Some("--slaves"),
-            20,
-        ),
-    ];
-    for (options, input, slaves) in cases {
+    for &(options, input, slaves) in &READS_REPLAYS_CASES {
         let mut words = words_of(rt.alloc(), &["replay", "p", "i", "--input"])?;
         for option in options {
             words.push(String::from_str(rt.alloc(), option)?)?;
@@ -152,21 +155,22 @@ fn reads_replays(rt: HostRuntime) -> Result<(), Fail> {
     Ok(())
 }
 
+static READS_PROFILES_AND_CHECKS_CASES: [(&[&str], Option<&str>, u64); 6] = [
+    (&[], None, 1_000_000_000),
+    (&["--input", "f"], Some("f"), 1_000_000_000),
+    (&["--budget", "1"], None, 1),
+    (&["--budget", "1000000000000"], None, 1_000_000_000_000),
+    (&["--input", "f", "--budget", "45"], Some("f"), 45),
+    (
+        &["--budget", "45", "--input", "--budget"],
+        Some("--budget"),
+        45,
+    ),
+];
+
 #[test]
 fn reads_profiles_and_checks(rt: HostRuntime) -> Result<(), Fail> {
-    let cases: [(&[&str], Option<&str>, u64); 6] = [
-        (&[], None, 1_000_000_000),
-        (&["--input", "f"], Some("f"), 1_000_000_000),
-        (&["--budget", "1"], None, 1),
-        (&["--budget", "1000000000000"], None, 1_000_000_000_000),
-        (&["--input", "f", "--budget", "45"], Some("f"), 45),
-        (
-            &["--budget", "45", "--input", "--budget"],
-            Some("--budget"),
-            45,
-        ),
-    ];
-    for (options, input, budget) in cases {
+    for &(options, input, budget) in &READS_PROFILES_AND_CHECKS_CASES {
         let mut profile = words_of(rt.alloc(), &["profile", "p", "--input"])?;
         let mut check = words_of(rt.alloc(), &["check", "p", "--input"])?;
         for option in options {
@@ -193,22 +197,23 @@ fn reads_profiles_and_checks(rt: HostRuntime) -> Result<(), Fail> {
     Ok(())
 }
 
+static READS_DISTILLATIONS_CASES: [(&[&str], u32, u64, u32, u32); 5] = [
+    (&[], 10, 2, 200, 4_096),
+    (&["--rare", "0", "--hot", "1"], 0, 1, 200, 4_096),
+    (&["--goal", "1", "--limit", "16"], 10, 2, 1, 16),
+    (&["--limit", "16384", "--rare", "100"], 100, 2, 200, 16_384),
+    (
+        &["--hot", "1000000000000", "--goal", "65536"],
+        10,
+        1_000_000_000_000,
+        65_536,
+        4_096,
+    ),
+];
+
 #[test]
 fn reads_distillations(rt: HostRuntime) -> Result<(), Fail> {
-    let cases: [(&[&str], u32, u64, u32, u32); 5] = [
-        (&[], 10, 2, 200, 4_096),
-        (&["--rare", "0", "--hot", "1"], 0, 1, 200, 4_096),
-        (&["--goal", "1", "--limit", "16"], 10, 2, 1, 16),
-        (&["--limit", "16384", "--rare", "100"], 100, 2, 200, 16_384),
-        (
-            &["--hot", "1000000000000", "--goal", "65536"],
-            10,
-            1_000_000_000_000,
-            65_536,
-            4_096,
-        ),
-    ];
-    for (options, rare, hot, goal, limit) in cases {
+    for &(options, rare, hot, goal, limit) in &READS_DISTILLATIONS_CASES {
         let mut words = words_of(rt.alloc(), &["distill", "p", "f", "--rare"])?;
         for option in options {
             words.push(String::from_str(rt.alloc(), option)?)?;
@@ -231,86 +236,87 @@ fn reads_distillations(rt: HostRuntime) -> Result<(), Fail> {
     Ok(())
 }
 
+static REFUSES_OTHER_WORDS_CASES: [&[&str]; 75] = [
+    &[],
+    &[""],
+    &["run"],
+    &["run", ""],
+    &["Run", "p"],
+    &["runs", "p"],
+    &["ru", "p"],
+    &["p", "run"],
+    &["--budget", "1", "run", "p"],
+    &["run", "--input", "f", "p"],
+    &["run", "p", "q"],
+    &["run", "p", "--input"],
+    &["run", "p", "--input", ""],
+    &["run", "p", "--input=f"],
+    &["run", "p", "--inputs", "f"],
+    &["run", "p", "-input", "f"],
+    &["run", "p", "--INPUT", "f"],
+    &["run", "p", "", "f"],
+    &["run", "p", "--input", "f", "--input", "f"],
+    &["run", "p", "--budget", "1", "--input", "f", "--budget", "1"],
+    &["run", "p", "--budget"],
+    &["run", "p", "--budget", ""],
+    &["run", "p", "--budget", "0"],
+    &["run", "p", "--budget", "01"],
+    &["run", "p", "--budget", "+1"],
+    &["run", "p", "--budget", "-1"],
+    &["run", "p", "--budget", "1000000000001"],
+    &["run", "p", "--budget", "18446744073709551617"],
+    &["run", "p", "--budget", "100000000000000000001"],
+    &["run", "p", "--budget", "f", "--input", "1"],
+    &["run", "p", "--input", "f", "--budget", "1", "more"],
+    &["run", "p", "--image", "i"],
+    &["run", "p", "--image", "", "--report", "r"],
+    &["run", "p", "--image", "i", "--report", ""],
+    &["run", "p", "--slaves", "0"],
+    &["run", "p", "--slaves", "65"],
+    &["show"],
+    &["show", ""],
+    &["show", "f", "g"],
+    &["show", "f", "--input", "g"],
+    &["shows", "f"],
+    &["replay"],
+    &["replay", "p"],
+    &["replay", "p", "i"],
+    &["replay", "", "i", "e"],
+    &["replay", "p", "", "e"],
+    &["replay", "p", "i", ""],
+    &["replay", "p", "i", "e", "--slaves"],
+    &["replay", "p", "i", "e", "--slaves", "0"],
+    &["replay", "p", "i", "e", "--slaves", "65"],
+    &["replay", "p", "i", "e", "--slaves", "04"],
+    &["replay", "p", "i", "e", "--slaves", "4", "--slaves", "4"],
+    &["replay", "p", "i", "e", "--budget", "1"],
+    &["profile", "p"],
+    &["profile", "", "o"],
+    &["profile", "p", ""],
+    &["profile", "p", "o", "--budget", "0"],
+    &["profile", "p", "o", "--budget", "1000000000001"],
+    &["profile", "p", "o", "--slaves", "4"],
+    &["check", "p"],
+    &["check", "p", "i", "--report", "r"],
+    &["check", "p", "i", "--budget", "1", "--budget", "1"],
+    &["distill", "p", "f"],
+    &["distill", "", "f", "o"],
+    &["distill", "p", "", "o"],
+    &["distill", "p", "f", ""],
+    &["distill", "p", "f", "o", "--rare", "101"],
+    &["distill", "p", "f", "o", "--hot", "0"],
+    &["distill", "p", "f", "o", "--hot", "1000000000001"],
+    &["distill", "p", "f", "o", "--goal", "0"],
+    &["distill", "p", "f", "o", "--goal", "65537"],
+    &["distill", "p", "f", "o", "--limit", "15"],
+    &["distill", "p", "f", "o", "--limit", "16385"],
+    &["distill", "p", "f", "o", "--rare", "00"],
+    &["distill", "p", "f", "o", "--input", "i"],
+];
+
 #[test]
 fn refuses_other_words(rt: HostRuntime) -> Result<(), Fail> {
-    let cases: [&[&str]; 75] = [
-        &[],
-        &[""],
-        &["run"],
-        &["run", ""],
-        &["Run", "p"],
-        &["runs", "p"],
-        &["ru", "p"],
-        &["p", "run"],
-        &["--budget", "1", "run", "p"],
-        &["run", "--input", "f", "p"],
-        &["run", "p", "q"],
-        &["run", "p", "--input"],
-        &["run", "p", "--input", ""],
-        &["run", "p", "--input=f"],
-        &["run", "p", "--inputs", "f"],
-        &["run", "p", "-input", "f"],
-        &["run", "p", "--INPUT", "f"],
-        &["run", "p", "", "f"],
-        &["run", "p", "--input", "f", "--input", "f"],
-        &["run", "p", "--budget", "1", "--input", "f", "--budget", "1"],
-        &["run", "p", "--budget"],
-        &["run", "p", "--budget", ""],
-        &["run", "p", "--budget", "0"],
-        &["run", "p", "--budget", "01"],
-        &["run", "p", "--budget", "+1"],
-        &["run", "p", "--budget", "-1"],
-        &["run", "p", "--budget", "1000000000001"],
-        &["run", "p", "--budget", "18446744073709551617"],
-        &["run", "p", "--budget", "100000000000000000001"],
-        &["run", "p", "--budget", "f", "--input", "1"],
-        &["run", "p", "--input", "f", "--budget", "1", "more"],
-        &["run", "p", "--image", "i"],
-        &["run", "p", "--image", "", "--report", "r"],
-        &["run", "p", "--image", "i", "--report", ""],
-        &["run", "p", "--slaves", "0"],
-        &["run", "p", "--slaves", "65"],
-        &["show"],
-        &["show", ""],
-        &["show", "f", "g"],
-        &["show", "f", "--input", "g"],
-        &["shows", "f"],
-        &["replay"],
-        &["replay", "p"],
-        &["replay", "p", "i"],
-        &["replay", "", "i", "e"],
-        &["replay", "p", "", "e"],
-        &["replay", "p", "i", ""],
-        &["replay", "p", "i", "e", "--slaves"],
-        &["replay", "p", "i", "e", "--slaves", "0"],
-        &["replay", "p", "i", "e", "--slaves", "65"],
-        &["replay", "p", "i", "e", "--slaves", "04"],
-        &["replay", "p", "i", "e", "--slaves", "4", "--slaves", "4"],
-        &["replay", "p", "i", "e", "--budget", "1"],
-        &["profile", "p"],
-        &["profile", "", "o"],
-        &["profile", "p", ""],
-        &["profile", "p", "o", "--budget", "0"],
-        &["profile", "p", "o", "--budget", "1000000000001"],
-        &["profile", "p", "o", "--slaves", "4"],
-        &["check", "p"],
-        &["check", "p", "i", "--report", "r"],
-        &["check", "p", "i", "--budget", "1", "--budget", "1"],
-        &["distill", "p", "f"],
-        &["distill", "", "f", "o"],
-        &["distill", "p", "", "o"],
-        &["distill", "p", "f", ""],
-        &["distill", "p", "f", "o", "--rare", "101"],
-        &["distill", "p", "f", "o", "--hot", "0"],
-        &["distill", "p", "f", "o", "--hot", "1000000000001"],
-        &["distill", "p", "f", "o", "--goal", "0"],
-        &["distill", "p", "f", "o", "--goal", "65537"],
-        &["distill", "p", "f", "o", "--limit", "15"],
-        &["distill", "p", "f", "o", "--limit", "16385"],
-        &["distill", "p", "f", "o", "--rare", "00"],
-        &["distill", "p", "f", "o", "--input", "i"],
-    ];
-    for texts in cases {
+    for &texts in &REFUSES_OTHER_WORDS_CASES {
         let words = words_of(rt.alloc(), texts)?;
         assert_eq!(rt; read_command(&words), None, "at {texts:?}");
     }

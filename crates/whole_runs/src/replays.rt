@@ -244,17 +244,18 @@ fn the_output_is_put_last(rt: HostRuntime) -> Result<(), Fail> {
     Ok(())
 }
 
+static THE_INPUT_IS_READ_CASES: [(&[&str], &str); 2] = [
+    (REPLAY, "end exit 0\noutput 0\n"),
+    (
+        &["replay", "p", "m", "e", "--input", "i"],
+        "end exit 48\noutput 0\n",
+    ),
+];
+
 #[test]
 fn the_input_is_read(rt: HostRuntime) -> Result<(), Fail> {
     let alloc = rt.alloc();
-    let cases: [(&[&str], &str); 2] = [
-        (REPLAY, "end exit 0\noutput 0\n"),
-        (
-            &["replay", "p", "m", "e", "--input", "i"],
-            "end exit 48\noutput 0\n",
-        ),
-    ];
-    for (words, end) in cases {
+    for &(words, end) in &THE_INPUT_IS_READ_CASES {
         let left = replay(alloc, words, &READ_TWICE, &TEN_TURNS, "12 serial\n", SURE)?;
         assert_eq!(rt; left.status, 0, "{words:?}");
         assert!(rt; left.out.ends_with(end.as_bytes()), "{words:?}");
@@ -283,21 +284,22 @@ fn a_refused_list_is_told_by_its_first_fault(rt: HostRuntime) -> Result<(), Fail
     Ok(())
 }
 
+static FILES_OF_A_REPLAY_ARE_READ_IN_ORDER_CASES: [(&[&str], u8, &str); 8] = [
+    (&["no", "no", "no"], 111, "absent no"),
+    (&["e", "no", "no"], 116, "program e: short"),
+    (&["p", "no", "no"], 111, "absent no"),
+    (&["p", "e", "no"], 117, "image e: short"),
+    (&["p", "m", "no"], 111, "absent no"),
+    (&["p", "m", "i"], 119, "events i: line 1"),
+    (&["p", "m", "i", "--input", "no"], 119, "events i: line 1"),
+    (&["p", "m", "e", "--input", "no"], 111, "absent no"),
+];
+
 #[test]
 fn files_of_a_replay_are_read_in_order(rt: HostRuntime) -> Result<(), Fail> {
     let alloc = rt.alloc();
     // a file of the list is refused as a program and as an image
-    let cases: [(&[&str], u8, &str); 8] = [
-        (&["no", "no", "no"], 111, "absent no"),
-        (&["e", "no", "no"], 116, "program e: short"),
-        (&["p", "no", "no"], 111, "absent no"),
-        (&["p", "e", "no"], 117, "image e: short"),
-        (&["p", "m", "no"], 111, "absent no"),
-        (&["p", "m", "i"], 119, "events i: line 1"),
-        (&["p", "m", "i", "--input", "no"], 119, "events i: line 1"),
-        (&["p", "m", "e", "--input", "no"], 111, "absent no"),
-    ];
-    for (names, status, what) in cases {
+    for &(names, status, what) in &FILES_OF_A_REPLAY_ARE_READ_IN_ORDER_CASES {
         let mut words = vec![in alloc; "replay"]?;
         words.extend_from_slice(names)?;
         let left = replay(

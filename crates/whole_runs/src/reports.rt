@@ -131,15 +131,16 @@ fn a_report_tells_a_budget_and_a_trap(rt: HostRuntime) -> Result<(), Fail> {
     Ok(())
 }
 
+static AN_IMAGE_ASKS_FOR_A_REPORT_CASES: [&[&str]; 3] = [
+    &["run", "p", "--image", "m"],
+    &["run", "p", "--slaves", "65"],
+    &["run", "p", "--report", "r", "--slaves", "0"],
+];
+
 #[test]
 fn an_image_asks_for_a_report(rt: HostRuntime) -> Result<(), Fail> {
     let alloc = rt.alloc();
-    let cases: [&[&str]; 3] = [
-        &["run", "p", "--image", "m"],
-        &["run", "p", "--slaves", "65"],
-        &["run", "p", "--report", "r", "--slaves", "0"],
-    ];
-    for words in cases {
+    for &words in &AN_IMAGE_ASKS_FOR_A_REPORT_CASES {
         let left = run(alloc, words, &HELLO, &EXIT_7_CALL, SURE)?;
         assert_eq!(rt; left.status, 110, "{words:?}");
         assert_eq!(rt;
@@ -152,32 +153,33 @@ fn an_image_asks_for_a_report(rt: HostRuntime) -> Result<(), Fail> {
     Ok(())
 }
 
+static FILES_ARE_WANTING_OR_REFUSED_IN_THEIR_ORDER_CASES: [(&[&str], u8, &str); 4] = [
+    (
+        &["run", "q", "--image", "q", "--report", "r"],
+        111,
+        "mssp: absent q\n",
+    ),
+    (
+        &["run", "p", "--input", "k", "--image", "q", "--report", "r"],
+        111,
+        "mssp: absent q\n",
+    ),
+    (
+        &["run", "p", "--input", "k", "--image", "i", "--report", "r"],
+        117,
+        "mssp: image i: short\n",
+    ),
+    (
+        &["run", "p", "--input", "k", "--image", "m", "--report", "r"],
+        111,
+        "mssp: absent k\n",
+    ),
+];
+
 #[test]
 fn files_are_wanting_or_refused_in_their_order(rt: HostRuntime) -> Result<(), Fail> {
     let alloc = rt.alloc();
-    let cases: [(&[&str], u8, &str); 4] = [
-        (
-            &["run", "q", "--image", "q", "--report", "r"],
-            111,
-            "mssp: absent q\n",
-        ),
-        (
-            &["run", "p", "--input", "k", "--image", "q", "--report", "r"],
-            111,
-            "mssp: absent q\n",
-        ),
-        (
-            &["run", "p", "--input", "k", "--image", "i", "--report", "r"],
-            117,
-            "mssp: image i: short\n",
-        ),
-        (
-            &["run", "p", "--input", "k", "--image", "m", "--report", "r"],
-            111,
-            "mssp: absent k\n",
-        ),
-    ];
-    for (words, status, line) in cases {
+    for &(words, status, line) in &FILES_ARE_WANTING_OR_REFUSED_IN_THEIR_ORDER_CASES {
         let left = run(alloc, words, &HELLO, &EXIT_7_CALL, SURE)?;
         assert_eq!(rt; left.status, status, "{words:?}");
         assert_eq!(rt; left.err.as_slice(), line.as_bytes(), "{words:?}");

@@ -68,37 +68,38 @@ fn changed(alloc: Global, changes: &[(usize, u32)]) -> Result<Vec<u8>, Fail> {
     Ok(bytes_of(alloc, &numbers)?)
 }
 
+static A_REFUSED_IMAGE_IS_TOLD_BY_ITS_FIRST_FAULT_CASES: [(&[(usize, u32)], &str); 21] = [
+    (&[(0, 0x4D53_5350)], "magic"),
+    (&[(1, 2)], "version"),
+    (&[(2, 15)], "limit"),
+    (&[(3, 1_048_577)], "too many slots"),
+    (&[(4, 524_289)], "too many anchors"),
+    (&[(5, 524_289)], "too many notes"),
+    (&[(6, 1_048_577)], "too many assumptions"),
+    (&[(70, 1), (72, 0), (73, 1_048_577)], "too many targets"),
+    (&[(13, 3)], "kind slots 2"),
+    (&[(72, 2)], "kind assumptions 0"),
+    (&[(11, 0x10001)], "range slots 1"),
+    (&[(30, 65)], "range anchors 0"),
+    (&[(68, 1)], "range notes 8"),
+    (&[(71, 0x1000A)], "range assumptions 0"),
+    (&[(70, 1), (72, 0), (73, 1)], "range targets 0"),
+    (&[(31, 0x10000)], "order anchors 1"),
+    (&[(38, 0x10000)], "order notes 1"),
+    (&[(78, 3)], "order assumptions 2"),
+    (
+        &[(70, 1), (72, 0), (73, 2), (74, 8), (75, 8)],
+        "order targets 0",
+    ),
+    (&[(6, 3)], "long"),
+    (&[(6, 5)], "short"),
+];
+
 #[test]
 fn a_refused_image_is_told_by_its_first_fault(rt: HostRuntime) -> Result<(), Fail> {
     let alloc = rt.alloc();
     // places of numbers, with what is put there
-    let cases: [(&[(usize, u32)], &str); 21] = [
-        (&[(0, 0x4D53_5350)], "magic"),
-        (&[(1, 2)], "version"),
-        (&[(2, 15)], "limit"),
-        (&[(3, 1_048_577)], "too many slots"),
-        (&[(4, 524_289)], "too many anchors"),
-        (&[(5, 524_289)], "too many notes"),
-        (&[(6, 1_048_577)], "too many assumptions"),
-        (&[(70, 1), (72, 0), (73, 1_048_577)], "too many targets"),
-        (&[(13, 3)], "kind slots 2"),
-        (&[(72, 2)], "kind assumptions 0"),
-        (&[(11, 0x10001)], "range slots 1"),
-        (&[(30, 65)], "range anchors 0"),
-        (&[(68, 1)], "range notes 8"),
-        (&[(71, 0x1000A)], "range assumptions 0"),
-        (&[(70, 1), (72, 0), (73, 1)], "range targets 0"),
-        (&[(31, 0x10000)], "order anchors 1"),
-        (&[(38, 0x10000)], "order notes 1"),
-        (&[(78, 3)], "order assumptions 2"),
-        (
-            &[(70, 1), (72, 0), (73, 2), (74, 8), (75, 8)],
-            "order targets 0",
-        ),
-        (&[(6, 3)], "long"),
-        (&[(6, 5)], "short"),
-    ];
-    for (changes, what) in cases {
+    for &(changes, what) in &A_REFUSED_IMAGE_IS_TOLD_BY_ITS_FIRST_FAULT_CASES {
         let image = changed(alloc, changes)?;
         let left = perform(alloc, SHOW, image, Vec::new(alloc), SURE)?;
         assert_eq!(rt; left.status, 117, "{what}");

@@ -108,40 +108,41 @@ fn a_write_takes_65_536_bytes_at_most(rt: HostRuntime) -> Result<(), Fail> {
     Ok(())
 }
 
+static OTHER_WORDS_ARE_NO_COMMAND_CASES: [&[&str]; 28] = [
+    &[],
+    &[""],
+    &["p"],
+    &["run"],
+    &["run", ""],
+    &["Run", "p"],
+    &["run", "p", "p"],
+    &["run", "p", "--slaves", "65"],
+    &["run", "p", "--image", "i"],
+    &["run", "p", "--budget"],
+    &["run", "p", "--budget", "0"],
+    &["run", "p", "--budget", "03"],
+    &["run", "p", "--budget", "+3"],
+    &["run", "p", "--budget", "3 "],
+    &["run", "p", "--budget", "1000000000001"],
+    &["run", "p", "--budget", "3", "--budget", "3"],
+    &["run", "p", "--input", ""],
+    &["run", "p", "--input", "i", "--input", "i"],
+    &["run", "p", "--inputs", "i"],
+    &["--budget", "3", "run", "p"],
+    &["show"],
+    &["show", ""],
+    &["show", "p", "p"],
+    &["show", "p", "--input", "i"],
+    &["replay", "p", "m"],
+    &["replay", "p", "m", ""],
+    &["replay", "p", "m", "e", "--slaves", "65"],
+    &["replay", "p", "m", "e", "--budget", "1"],
+];
+
 #[test]
 fn other_words_are_no_command(rt: HostRuntime) -> Result<(), Fail> {
     let alloc = rt.alloc();
-    let cases: [&[&str]; 28] = [
-        &[],
-        &[""],
-        &["p"],
-        &["run"],
-        &["run", ""],
-        &["Run", "p"],
-        &["run", "p", "p"],
-        &["run", "p", "--slaves", "65"],
-        &["run", "p", "--image", "i"],
-        &["run", "p", "--budget"],
-        &["run", "p", "--budget", "0"],
-        &["run", "p", "--budget", "03"],
-        &["run", "p", "--budget", "+3"],
-        &["run", "p", "--budget", "3 "],
-        &["run", "p", "--budget", "1000000000001"],
-        &["run", "p", "--budget", "3", "--budget", "3"],
-        &["run", "p", "--input", ""],
-        &["run", "p", "--input", "i", "--input", "i"],
-        &["run", "p", "--inputs", "i"],
-        &["--budget", "3", "run", "p"],
-        &["show"],
-        &["show", ""],
-        &["show", "p", "p"],
-        &["show", "p", "--input", "i"],
-        &["replay", "p", "m"],
-        &["replay", "p", "m", ""],
-        &["replay", "p", "m", "e", "--slaves", "65"],
-        &["replay", "p", "m", "e", "--budget", "1"],
-    ];
-    for words in cases {
+    for &words in &OTHER_WORDS_ARE_NO_COMMAND_CASES {
         let program = frame(alloc, &HELLO)?;
         let left = perform(alloc, words, program, Vec::new(alloc), SURE)?;
         assert_eq!(rt; left.status, 110, "{words:?}");
@@ -155,38 +156,45 @@ fn other_words_are_no_command(rt: HostRuntime) -> Result<(), Fail> {
     Ok(())
 }
 
+static A_REFUSED_PROGRAM_IS_TOLD_BY_ITS_FIRST_FAULT_CASES: [(usize, usize, u32, u8, &str); 25] = [
+    (0, 0, 0x464C457F, 116, "program p: short"),
+    (51, 0, 0x464C457F, 116, "program p: short"),
+    (96, 0, 0x464C4500, 116, "program p: magic"),
+    (96, 1, 0x00010102, 116, "program p: class"),
+    (96, 1, 0x00010201, 116, "program p: endian"),
+    (96, 1, 0x00020101, 116, "program p: version"),
+    (96, 4, 0x00F30003, 116, "program p: kind"),
+    (96, 4, 0x00F40002, 116, "program p: machine"),
+    (96, 9, 1, 116, "program p: flags"),
+    (96, 9, 16, 7, ""),
+    (96, 6, 0x00010002, 116, "program p: entry"),
+    (83, 9, 0, 116, "program p: table"),
+    (96, 10, 0x00210034, 116, "program p: table"),
+    (96, 7, 65, 116, "program p: table"),
+    (96, 11, 65, 116, "program p: table"),
+    (2_132, 11, 65, 116, "program p: too many"),
+    (2_100, 11, 64, 7, ""),
+    (96, 13, 3, 116, "program p: interp"),
+    (84, 9, 0, 116, "program p: outside 0"),
+    (95, 9, 0, 116, "program p: outside 0"),
+    (96, 14, 85, 116, "program p: outside 0"),
+    (96, 18, 11, 116, "program p: larger 0"),
+    (96, 18, 0xFFFE_F001, 116, "program p: wraps 0"),
+    (96, 18, 0xFFFE_F000, 7, ""),
+    (96, 15, 0xFFFF_EFF4, 121, "trap 00010000 illegal 00000000"),
+];
+
 #[test]
 fn a_refused_program_is_told_by_its_first_fault(rt: HostRuntime) -> Result<(), Fail> {
     let alloc = rt.alloc();
     // the length of the file, and one of its words with what is put in its place
-    let cases: [(usize, usize, u32, u8, &str); 25] = [
-        (0, 0, 0x464C457F, 116, "program p: short"),
-        (51, 0, 0x464C457F, 116, "program p: short"),
-        (96, 0, 0x464C4500, 116, "program p: magic"),
-        (96, 1, 0x00010102, 116, "program p: class"),
-        (96, 1, 0x00010201, 116, "program p: endian"),
-        (96, 1, 0x00020101, 116, "program p: version"),
-        (96, 4, 0x00F30003, 116, "program p: kind"),
-        (96, 4, 0x00F40002, 116, "program p: machine"),
-        (96, 9, 1, 116, "program p: flags"),
-        (96, 9, 16, 7, ""),
-        (96, 6, 0x00010002, 116, "program p: entry"),
-        (83, 9, 0, 116, "program p: table"),
-        (96, 10, 0x00210034, 116, "program p: table"),
-        (96, 7, 65, 116, "program p: table"),
-        (96, 11, 65, 116, "program p: table"),
-        (2_132, 11, 65, 116, "program p: too many"),
-        (2_100, 11, 64, 7, ""),
-        (96, 13, 3, 116, "program p: interp"),
-        (84, 9, 0, 116, "program p: outside 0"),
-        (95, 9, 0, 116, "program p: outside 0"),
-        (96, 14, 85, 116, "program p: outside 0"),
-        (96, 18, 11, 116, "program p: larger 0"),
-        (96, 18, 0xFFFE_F001, 116, "program p: wraps 0"),
-        (96, 18, 0xFFFE_F000, 7, ""),
-        (96, 15, 0xFFFF_EFF4, 121, "trap 00010000 illegal 00000000"),
-    ];
-    for (length, place, word, status, what) in cases {
+    for &(
+        length,
+        place,
+        word,
+        status,
+        what,
+    ) in &A_REFUSED_PROGRAM_IS_TOLD_BY_ITS_FIRST_FAULT_CASES {
         let mut words = framed(alloc, &EXIT_7)?;
         if let Some(old) = words.get_mut(place) {
             *old = word;
