@@ -3,7 +3,7 @@
 ghost use Rattle.std.specs.Prelude.{◌≡◌, Some, IfOk, string_bytes};
 ghost use Rattle.outside.specs.Files.{HasDistinctNames};
 
-use outside::{MemSink, MemStore, Sink, SinkErr, Store, StoreErr, SureSink, SureStore};
+use outside::{MemSink, MemStore, Sink, SinkErr, Store, StoreErr, SureSink, SureStore, TornSink};
 use std::alloc::{AllocError, Global};
 use std::test::Fail;
 
@@ -120,53 +120,15 @@ fn a_sink_fails_at_the_listed_puts(rt: HostRuntime) -> Result<(), Fail> {
     Ok(())
 }
 
-// A sink that takes so many bytes and then fails in the middle of a put.
-#[derive(Drop)]
-struct SmallSink {
-    room: usize,
-    bytes: Vec<u8>,
-    faults: u64,
-}
-
-impl Sink for SmallSink {
-    ghost told = { λ s. Some s.bytes.items };
-
-    ghost faults = { λ s. s.faults };
-
-    fn put(&mut self, _alloc: Global, bytes: &[u8]) -> Result<(), SinkErr> {
-        let faults = self.faults;
-        if bytes.is_empty() {
-            return Ok(());
-        }
-        let room = self.room - self.bytes.len().min(self.room);
-        if bytes.len() <= room {
-            return match self.bytes.extend_from_slice(bytes) {
-                Ok(()) => Ok(()),
-                Err(_) => Err(SinkErr::Memory),
-            };
-        }
-        match self.bytes.extend_from_slice(&bytes[..room]) {
-            Ok(()) => {
-                self.faults = faults.saturating_add(1);
-                Err(SinkErr::Failed)
-            }
-            Err(_) => Err(SinkErr::Memory),
-        }
-    }
-}
-
 #[test]
 fn a_put_may_fail_in_the_middle(rt: HostRuntime) -> Result<(), Fail> {
     let alloc = rt.alloc();
-    let mut sink = SmallSink {
-        room: 5,
-        bytes: Vec::new(alloc),
-        faults: 0,
-    };
+    let mut sink = TornSink::new(alloc, 5);
     assert_eq!(rt; put(alloc, &mut sink, b"one "), Ok(()));
     assert_eq!(rt; put(alloc, &mut sink, b"two"), Err(SinkErr::Failed));
-    assert_eq!(rt; sink.bytes.as_slice(), b"one t".as_slice());
+    assert_eq!(rt; sink.bytes(), b"one t".as_slice());
     assert_eq!(rt; put(alloc, &mut sink, b""), Ok(()));
-    assert_eq!(rt; sink.faults, 1);
+    assert_eq!(rt; put(alloc, &mut sink, b"3"), Err(SinkErr::Failed));
+    assert_eq!(rt; sink.bytes(), b"one t".as_slice());
     Ok(())
 }

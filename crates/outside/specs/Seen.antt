@@ -17,3 +17,11 @@ pub record SeenSink : Type 0 where
 
 abbrev pub sink_code : Coded SeenSink
 sink_code = code_by (List ℕ × Schedule) (coded× (coded_list coded_ℕ) schedule_code) (λ s. (s.bytes, s.schedule)) (λ p. record { bytes = p.0; schedule = p.1 }) (λ _. refl)
+
+pub record SeenTorn : Type 0 where
+  pub bytes : List ℕ
+  pub room : ℕ
+  pub faults : ℕ
+
+abbrev pub torn_code : Coded SeenTorn
+torn_code = code_by (List ℕ × (ℕ × ℕ)) (coded× (coded_list coded_ℕ) (coded× coded_ℕ coded_ℕ)) (λ s. (s.bytes, (s.room, s.faults))) (λ p. record { bytes = p.0; room = p.1.0; faults = p.1.1 }) (λ _. refl)

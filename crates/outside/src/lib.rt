@@ -9,12 +9,14 @@
 //! A call that answers want of memory leaves its store or sink as it was, the count too.
 //!
 //! The forms in memory always tell: [`SureStore`] and [`SureSink`] never fail, and [`MemStore`] and
-//! [`MemSink`] fail at the calls that a list names.
+//! [`MemSink`] fail at the calls that a list names. A [`TornSink`] takes a part of the put that is too
+//! long for it.
 #![tactic(auto)]
 
 mod memory;
 mod schedule;
 mod sure;
+mod torn;
 
 ghost use Rattle.std.specs.Prelude.{◌≡◌, ℕ, List, Option};
 ghost use Rattle.outside.specs.Answers.{PutAnswers, ReadAnswers, WriteAnswers};
@@ -24,6 +26,7 @@ pub use memory::{MemSink, MemStore};
 use std::alloc::Global;
 pub use sure::{SureSink, SureStore};
 use thiserror::Error;
+pub use torn::TornSink;
 
 /// Why a store gave no file, or took none.
 #[derive(Debug, Clone, Copy, PartialEq, Eq, Error)]

@@ -41,3 +41,14 @@ pub static SHORT_TASKS: [u32; 30] = [
     0x5053534D, 1, 16, 4, 1, 2, 0, 2, 0, 0, 0, 0x10004, 0xFFF28293, 0, 0x10008, 0xFE029EE3, 1,
     0x10004, 0, 0x10004, 0, 64, 0x10004, 0, 0, 0, 0x10008, 2, 0, 0,
 ];
+
+/// The master's first slot begins a task, and the second leads back to itself: it goes round until its slots are spent.
+pub static SPENT_BEHIND_A_FORK: [u32; 24] = [
+    0x5053534D, 1, 16, 2, 1, 2, 0, 2, 0, 0, 1, 0x10008, 0, 0x10004, 0, 1, 0x10004, 0, 0, 0,
+    0x10008, 1, 0, 0,
+];
+
+/// Two forks of the one anchor stand one behind the other, and the slot behind them leads back to the first.
+pub static TWO_FORKS_AT_ONE_PC: [u32; 23] = [
+    0x5053534D, 1, 16, 3, 1, 1, 0, 2, 0, 0, 2, 0, 0, 1, 0x10004, 0, 0x10004, 0, 1, 0x10004, 0, 0, 0,
+];

@@ -3,7 +3,7 @@ ghost use Rattle.std.specs.Prelude.{◌≡◌, IfOk, string_bytes};
 ghost use Rattle.outside.specs.Files.{HasDistinctNames};
 
 use mssp_tool::mssp;
-use outside::{MemSink, MemStore};
+use outside::{MemSink, MemStore, Sink, TornSink};
 use std::alloc::{AllocError, Global};
 
 /// The numbers of the call of the store, of the output and of the line that fails, counted from 1;
@@ -71,6 +71,27 @@ fn words_of(alloc: Global, texts: &[&str]) -> Result<Vec<String>, AllocError> {
     Ok(words)
 }
 
+/// Performs a command over these files; what it puts goes to `out`, and `Left` has none of it.
+fn perform_into<O: Sink>(
+    alloc: Global,
+    words: &[&str],
+    files: Files,
+    fails: Fails,
+    out: &mut O,
+) -> Result<Left, AllocError> {
+    let words = words_of(alloc, words)?;
+    let files = named(alloc, files)?;
+    let mut store = MemStore::new(alloc, files, vec![in alloc; fails.store]?)?;
+    let mut err = MemSink::new(alloc, vec![in alloc; fails.err]?);
+    let status = mssp(alloc, &words, &mut store, out, &mut err);
+    Ok(Left {
+        status,
+        out: Vec::new(alloc),
+        err: err.bytes().to_vec(alloc)?,
+        report: store.file("r").unwrap_or(&[]).to_vec(alloc)?,
+    })
+}
+
 /// Performs a command over these files.
 pub fn perform_over(
     alloc: Global,
@@ -78,18 +99,23 @@ pub fn perform_over(
     files: Files,
     fails: Fails,
 ) -> Result<Left, AllocError> {
-    let words = words_of(alloc, words)?;
-    let files = named(alloc, files)?;
-    let mut store = MemStore::new(alloc, files, vec![in alloc; fails.store]?)?;
     let mut out = MemSink::new(alloc, vec![in alloc; fails.out]?);
-    let mut err = MemSink::new(alloc, vec![in alloc; fails.err]?);
-    let status = mssp(alloc, &words, &mut store, &mut out, &mut err);
-    Ok(Left {
-        status,
-        out: out.bytes().to_vec(alloc)?,
-        err: err.bytes().to_vec(alloc)?,
-        report: store.file("r").unwrap_or(&[]).to_vec(alloc)?,
-    })
+    let mut left = perform_into(alloc, words, files, fails, &mut out)?;
+    left.out = out.bytes().to_vec(alloc)?;
+    Ok(left)
+}
+
+/// Performs a command over these files. What it puts goes to a sink with room for so many bytes.
+pub fn perform_torn(
+    alloc: Global,
+    words: &[&str],
+    files: Files,
+    room: u64,
+) -> Result<Left, AllocError> {
+    let mut out = TornSink::new(alloc, room);
+    let mut left = perform_into(alloc, words, files, SURE, &mut out)?;
+    left.out = out.bytes().to_vec(alloc)?;
+    Ok(left)
 }
 
 /// Performs a command where the file `p` is the program and `i` the input.
