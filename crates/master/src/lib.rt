@@ -4,6 +4,7 @@
 #![tactic(auto)]
 
 mod master;
+mod places;
 #[cfg(test)]
 mod tests;
 mod word;
