@@ -1,11 +1,14 @@
 //! A view that records what it reads and keeps what is put, over a checkpoint that stays.
-ghost use Rattle.std.specs.Prelude.{◌≡◌, ℕ, ◌<◌, OnOk, OnErr, IfOk, IfSome, IfNone, None, false, unwrap_or, slice_index, slice_index_or};
+ghost use Rattle.std.specs.Prelude.{◌≡◌, ℕ, ◌<◌, ◌+◌, ◌*◌, ◌^◌, OnOk, OnErr, IfOk, IfSome, IfNone, None, true, false, unwrap_or, slice_index, ◌||◌, nat_eq};
+ghost use Rattle.layers.specs.Marks.{has};
 ghost use Rattle.cells.specs.declared.Cell.{Cell};
 ghost use Rattle.cells.specs.Differ.{differ, differs, first_where, is_other};
 ghost use Rattle.rv_run.specs.Values.{plain_value};
-ghost use Rattle.layers.specs.Layered.{seen_of, begun, laid};
+ghost use Rattle.layers.specs.Layered.{seen_of, begun, laid, put_reg};
 
-use crate::notes::Notes;
+use crate::line::Four;
+use crate::lines::Lines;
+use crate::record::Record;
 use cells::{Cell, Differ};
 use rv_step::{Arch, Memory, View};
 use std::alloc::{AllocError, Global};
@@ -15,18 +18,18 @@ use std::alloc::{AllocError, Global};
 /// It shows the checkpoint with what was put since. Its record is Pc with the checkpoint's pc, and
 /// each cell that was read before it was put, with the value that it had there.
 ///
-/// The bytes that one step reads and puts go into short lists, so that only
-/// [`ready`](View::ready) needs memory: it moves them into maps, from where a read finds each in a
-/// constant number of look-ups, however much is recorded.
+/// Registers and bytes are marked by masks, those of bytes in lines of 64. What is recorded is read
+/// off the checkpoint. Only [`ready`](View::ready) needs memory: it makes room for the lines that one
+/// step may touch.
 #[derive(Drop)]
 pub struct TaskView<M: Memory> {
     start: u32,
     regs: [u32; 32],
     mem: M,
-    read_regs: [Option<u32>; 32],
-    put_regs: [Option<u32>; 32],
-    reads: Notes,
-    writes: Notes,
+    read_regs: u32,
+    put_regs: u32,
+    set: [u32; 32],
+    kept: Record,
 }
 
 impl<M: Memory> TaskView<M> {
@@ -42,10 +45,14 @@ impl<M: Memory> TaskView<M> {
             start: pc,
             regs,
             mem,
-            read_regs: [None; 32],
-            put_regs: [None; 32],
-            reads: Notes::new(alloc),
-            writes: Notes::new(alloc),
+            read_regs: 0,
+            put_regs: 0,
+            set: [0; 32],
+            kept: Record {
+                lines: Lines::new(alloc),
+                reads: 0,
+                writes: 0,
+            },
         })
     }
 
@@ -64,17 +71,17 @@ impl<M: Memory> TaskView<M> {
                 found: a.pc,
             });
         }
-        if let Some(r) = first_register(&self.read_regs, &a.regs) {
+        if let Some(r) = first_register(self.read_regs, &self.regs, &a.regs) {
             return Some(Differ {
                 cell: Cell::Reg(r),
-                predicted: self.read_regs[r as usize].unwrap_or(0),
+                predicted: self.regs[r as usize],
                 found: a.regs[r as usize],
             });
         }
-        match self.reads.first_other(&a.mem) {
+        match self.kept.lines.first_other(&self.mem, &a.mem) {
             Some(at) => Some(Differ {
                 cell: Cell::Byte(at),
-                predicted: u32::from(self.reads.get(at).unwrap_or(0)),
+                predicted: u32::from(self.mem.get(at)),
                 found: u32::from(a.mem.get(at)),
             }),
             None => None,
@@ -91,96 +98,157 @@ impl<M: Memory> TaskView<M> {
         ensures err { OnErr result (plain_value a.new.pc a.new.regs (M.at a.new.mem) ≡ plain_value a.old.pc a.old.regs (M.at a.old.mem)) }
     {
         let mut mem = a.mem.snapshot(alloc)?;
-        self.writes.put_into(alloc, &mut mem)?;
+        self.kept.lines.put_into(alloc, &mut mem)?;
         a.mem = mem;
         a.pc = pc;
-        lay_registers(&self.put_regs, &mut a.regs);
+        lay_registers(self.put_regs, &self.set, &mut a.regs);
         Ok(())
     }
 }
 
-// The first register for which another value was read.
-fn first_register(read: &[Option<u32>; 32], regs: &[u32; 32]) -> Option<u8>
-    ensures first { result ≡ first_where (λ n. is_other (slice_index_or read.now n None) (slice_index regs.now n)) 32 }
+// The first register that is marked and has another value in the second array.
+fn first_register(marks: u32, base: &[u32; 32], regs: &[u32; 32]) -> Option<u8>
+    ensures first { result ≡ first_where (λ n. is_other (put_reg marks (slice_index base.now) n) (slice_index regs.now n)) 32 }
     ensures within { IfSome result (λ r. r < 32) }
-    ensures none { IfNone result ((n : ℕ) → is_other (slice_index_or read.now n None) (slice_index regs.now n) ≡ false) }
+    ensures recorded { IfSome result (λ r. has marks r ≡ true) }
+    ensures none { IfNone result ((n : ℕ) → is_other (put_reg marks (slice_index base.now) n) (slice_index regs.now n) ≡ false) }
 {
     for i in 0..32 {
-        if let Some(v) = read[i] {
-            if v != regs[i] {
-                return Some(i as u8);
-            }
+        if has_register(marks, i as u8) && base[i] != regs[i] {
+            return Some(i as u8);
         }
     }
     None
 }
 
-// Sets the registers that were put.
-fn lay_registers(put: &[Option<u32>; 32], regs: &mut [u32; 32])
-    ensures { (n : ℕ) → slice_index regs.new n ≡ unwrap_or (slice_index_or put.now n None) (slice_index regs.old n) }
+// Sets the registers that are marked.
+fn lay_registers(marks: u32, set: &[u32; 32], regs: &mut [u32; 32])
+    ensures { (n : ℕ) → slice_index regs.new n ≡ unwrap_or (put_reg marks (slice_index set.now) n) (slice_index regs.old n) }
 {
     for i in 0..32 {
-        if let Some(v) = put[i] {
-            regs[i] = v;
+        if has_register(marks, i as u8) {
+            regs[i] = set[i];
         }
     }
 }
 
 impl<M: Memory> View for TaskView<M> {
-    ghost use Rattle.layers.specs.Notes.{room};
     ghost use Rattle.layers.specs.Layered.{seen_of};
 
     ghost seen = { seen_of M.at };
 
-    ghost read_room = { λ v. room v.reads };
+    ghost read_room = { λ v. v.kept.reads };
 
-    ghost write_room = { λ v. room v.writes };
+    ghost write_room = { λ v. v.kept.writes };
 
+    #[inline(always)]
     fn ready(&mut self, _alloc: Global) -> Result<(), AllocError> {
-        self.reads.make_room()?;
-        self.writes.make_room()
+        if self.kept.reads >= 10 && self.kept.writes >= 5 {
+            return Ok(());
+        }
+        self.kept.make_room(10, 5)
     }
 
+    #[inline(always)]
     fn reg(&mut self, r: u8) -> u32 {
         if r == 0 {
             return 0;
         }
-        let i = r as usize;
-        match self.put_regs[i] {
-            Some(v) => v,
-            None => match self.read_regs[i] {
-                Some(v) => v,
-                None => {
-                    let v = self.regs[i];
-                    self.read_regs[i] = Some(v);
-                    v
-                }
-            },
+        if has_register(self.put_regs, r) {
+            return self.set[r as usize];
         }
+        self.read_regs = with_register(self.read_regs, r);
+        self.regs[r as usize]
     }
 
+    #[inline(always)]
     fn set_reg(&mut self, r: u8, v: u32) {
         if r != 0 {
-            self.put_regs[r as usize] = Some(v);
+            self.put_regs = with_register(self.put_regs, r);
+            self.set[r as usize] = v;
         }
     }
 
+    #[inline(always)]
     fn byte(&mut self, a: u32) -> u8 {
-        match self.writes.get(a) {
+        let place = self.kept.place_to_read(a);
+        match self.kept.lines.look(place, a) {
             Some(v) => v,
-            None => match self.reads.get(a) {
-                Some(v) => v,
-                None => {
-                    let v = self.mem.get(a);
-                    self.reads.push(a, v);
-                    v
-                }
-            },
+            None => self.mem.get(a),
+        }
+    }
+
+    #[inline(always)]
+    fn fetch(&mut self, a: u32) -> u32 {
+        match self.kept.lines.look_near(a) {
+            Four::Checkpoint => self.mem.fetch(a),
+            Four::Put(w) => w,
+            Four::Both => self.word_by_bytes(a),
+        }
+    }
+
+    #[inline(always)]
+    fn word(&mut self, a: u32) -> u32 {
+        if a % 64 > 60 {
+            return self.word_by_bytes(a);
+        }
+        match self.kept.lines.look_near(a) {
+            Four::Checkpoint => self.mem.word(a),
+            Four::Put(w) => w,
+            Four::Both => self.word_by_bytes(a),
         }
     }
 
     fn put(&mut self, _alloc: Global, a: u32, bytes: &[u8]) -> Result<(), AllocError> {
-        self.writes.push_all(a, bytes);
+        self.kept.put_all(a, bytes);
         Ok(())
     }
+}
+
+impl<M: Memory> TaskView<M> {
+    ghost use Rattle.std.specs.Prelude.{◌≤◌};
+    ghost use Rattle.cells.specs.Bytes.{byte_cells, number};
+    ghost use Rattle.cells.specs.Seen.{read_cells};
+    ghost use Rattle.rv_run.specs.Values.{bytes_of};
+
+    // A word some of whose bytes were put, or that lies in two lines.
+    #[inline(never)]
+    fn word_by_bytes(&mut self, a: u32) -> u32
+        requires { 4 ≤ self.old.kept.reads }
+        ensures value { result ≡ number 4 a (bytes_of (seen_of M.at self.old).value) }
+        ensures seen { seen_of M.at self.new ≡ read_cells (byte_cells 4 a) (seen_of M.at self.old) }
+        ensures read_room { self.old.kept.reads ≤ self.new.kept.reads + 4 }
+        ensures write_room { self.old.kept.writes ≤ self.new.kept.writes }
+    {
+        let first = self.byte(a);
+        let second = self.byte(a.wrapping_add(1));
+        let third = self.byte(a.wrapping_add(2));
+        let last = self.byte(a.wrapping_add(3));
+        spell_four(first, second, third, last)
+    }
+}
+
+// The number that four bytes spell, the lowest first.
+fn spell_four(first: u8, second: u8, third: u8, fourth: u8) -> u32
+    ensures { result ≡ first + 2 ^ 8 * (second + 2 ^ 8 * (third + 2 ^ 8 * fourth)) }
+{
+    u32::from_le_bytes([first, second, third, fourth])
+}
+
+// Whether a register is marked.
+#[inline(always)]
+fn has_register(marks: u32, r: u8) -> bool
+    requires { r < 32 }
+    ensures { result ≡ has marks r }
+{
+    marks >> r & 1 == 1
+}
+
+// The marks with a register.
+#[inline(always)]
+fn with_register(marks: u32, r: u8) -> u32
+    requires { r < 32 }
+    ensures { (j : ℕ) → has result j ≡ (has marks j || nat_eq r j) }
+{
+    marks | 1 << r
 }

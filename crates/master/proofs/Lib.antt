@@ -1,2 +1,5 @@
+pub mod Targets
 pub mod Words
 pub mod Events
+pub mod Notes
+pub mod Registers

@@ -1,10 +1,11 @@
 -- A word that is done on a plain view, in the machine's own terms.
 use Rattle.std.proofs.Common.{◌≡◌, ℕ, ◌/◌, ◌*◌, ◌%◌, Bool, true, false, not, cond, List, [], ◌∷◌, None, unwrap_or, refl, sym, ap, ◌∙◌, true≢false}
-use Rattle.std.specs.Prelude.{Result, Ok, Err, IfOk, OnErr}
+use Rattle.std.specs.Prelude.{Result, Ok, Err, IfOk, OnErr, nat_eq}
 use lib.Dec.{eqb}
 use mathlib.Core.Path.{fun_ext}
 use Rattle.rv_word.specs.declared.inst.Inst.{Inst}
 use Rattle.rv_word.specs.declared.inst.Inst.TheVariants.{Lui, Auipc, Jal, Jalr, Branch, Load, Store, OpImm, Op, Fence, Ecall, Ebreak, Illegal as IllegalWord}
+use Rattle.rv_word.specs.Field.{rd}
 use Rattle.rv_word.specs.Meaning.{meaning}
 use Rattle.cells.specs.declared.Cell.{Cell}
 use Rattle.cells.specs.declared.Cell.TheVariants.{Pc, Reg, Byte}
@@ -21,6 +22,7 @@ use Rattle.rv_step.specs.Outcome.{Outcome, outcome}
 use Rattle.rv_step.proofs.Plain.{read_cells_plain, put_plain}
 use Rattle.rv_step.proofs.Stops.{stop_puts}
 use Rattle.master.specs.Word.{is_store, flow_of, Leaves}
+use Rattle.master.proofs.Targets.{sets}
 
 -- no byte is put but by a store
 abbrev NoByte : List (Cell × ℕ) → Type 0
@@ -169,6 +171,14 @@ module _ (s t : Arch) (o w : ℕ) where
   pub keeps_memory : {E : Type 0} (r : Result Flow E) → IfOk r Did → OnErr r Failed → is_store (meaning w) ≡ false → t.mem ≡ s.mem
   keeps_memory (Ok f) e h n = ap (λ (a : Arch). a.mem) (came f e) ∙ given_mem does s (no_byte (meaning w) o _ _ _ n)
   keeps_memory (Err x) e h n = ap (λ (a : Arch). a.mem) (before h.1)
+
+  one_register : (e : Effect) → e ≡ does → is_store (meaning w) ≡ false → (n : ℕ) → nat_eq (rd w) n ≡ false → (given e s).regs n ≡ s.regs n
+  unfolding given given_values
+  one_register e is ns n other = ap (λ o. unwrap_or o (s.regs n)) (ap (λ (x : Effect). puts_of x.puts (Reg n)) is ∙ sets w o _ _ _ n ns other)
+
+  pub keeps_registers : {E : Type 0} (r : Result Flow E) → IfOk r Did → OnErr r Failed → is_store (meaning w) ≡ false → (n : ℕ) → nat_eq (rd w) n ≡ false → t.regs n ≡ s.regs n
+  keeps_registers (Ok f) e h ns n other = ap (λ (a : Arch). a.regs n) (came f e) ∙ one_register does refl ns n other
+  keeps_registers (Err x) e h ns n other = ap (λ (a : Arch). a.regs n) (before h.1)
 
   pub was_before : {E : Type 0} (r : Result Flow E) → OnErr r Failed → OnErr r (record t { pc = o } ≡ at)
   was_before (Ok f) h = tt

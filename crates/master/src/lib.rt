@@ -4,6 +4,7 @@
 #![tactic(auto)]
 
 mod master;
+mod places;
 mod word;
 
 pub use master::{Master, MasterDid};

@@ -8,8 +8,9 @@ ghost use Rattle.master.specs.Shown.{shown, next_spawn, as_driven, Keeps, Spawns
 ghost use Rattle.master.specs.Shown as spec;
 ghost use Rattle.master.specs.Word.{is_store as stores};
 
-use crate::word::{is_store, perform};
-use dist_image::{Anchor, Image, Slot, slot_of};
+use crate::places::Places;
+use crate::word::{is_store, perform, set_register, target};
+use dist_image::{Anchor, Image, Slot};
 use rv_step::{Arch, Flow, Memory};
 use speculation::Why;
 use std::alloc::{AllocError, Global};
@@ -38,6 +39,8 @@ pub struct Master<M: Memory> {
     left: u32,
     /// How many slots were done since the last task began.
     spent: u32,
+    /// Where notes were found.
+    places: Places,
 }
 
 /// The most slots from one spawn to the next.
@@ -80,6 +83,7 @@ impl<M: Memory> Master<M> {
             slot: anchor.slot + 1,
             left: anchor.count,
             spent: 0,
+            places: Places::new(),
         })
     }
 
@@ -181,7 +185,7 @@ impl<M: Memory> Master<M> {
         ensures spawned { SpawnsNext None result }
         ensures stays { Keeps (shown M.at self.old) (shown M.at self.new) result }
     {
-        match slot_of(image, target) {
+        match self.places.slot_at(image, target) {
             None => MasterDid::Halted(Why::Lost),
             Some(slot) => self.move_to(slot),
         }
@@ -227,7 +231,7 @@ impl<M: Memory> Master<M> {
         ensures err { OnErr result (shown M.at self.new ≡ shown M.at self.old) }
     {
         let behind = origin.wrapping_add(4);
-        match slot_of(image, behind) {
+        match self.places.slot_at(image, behind) {
             None => Ok(MasterDid::Halted(Why::Lost)),
             Some(slot) => {
                 perform(alloc, &mut self.arch, origin, word)?;
@@ -237,7 +241,8 @@ impl<M: Memory> Master<M> {
         }
     }
 
-    // Any other word leaves the memory as it is. Its registers are put back where no slot follows.
+    // Any other word leaves the memory as it is, and sets one register at most, which is put back where
+    // no slot follows.
     fn compute(
         &mut self,
         alloc: Global,
@@ -253,11 +258,12 @@ impl<M: Memory> Master<M> {
         ensures stays { IfOk result (Keeps (shown M.at self.old) (shown M.at self.new)) }
         ensures err { OnErr result (shown M.at self.new ≡ shown M.at self.old) }
     {
-        let regs = self.arch.regs;
+        let target = target(word);
+        let before = self.arch.regs[target];
         match perform(alloc, &mut self.arch, origin, word)? {
-            Flow::Next(to) => match slot_of(image, to) {
+            Flow::Next(to) => match self.places.slot_at(image, to) {
                 None => {
-                    self.arch.regs = regs;
+                    set_register(&mut self.arch.regs, target, before);
                     Ok(MasterDid::Halted(Why::Lost))
                 }
                 Some(slot) => {

@@ -1,5 +1,6 @@
 //! One word of a slot, done in place of the word that lies at its origin.
-ghost use Rattle.std.specs.Prelude.{◌≡◌, ℕ, true, false, IfOk, OnErr};
+ghost use Rattle.std.specs.Prelude.{◌≡◌, ℕ, ◌<◌, true, false, cond, nat_eq, slice_index, IfOk, OnErr};
+ghost use Rattle.rv_word.specs.Field.{rd};
 ghost use Rattle.rv_word.specs.Meaning.{meaning};
 ghost use Rattle.master.specs.Word.{is_store, Leaves, placed};
 
@@ -8,10 +9,29 @@ use rv_word::{Inst, decode};
 use std::alloc::{AllocError, Global};
 
 /// Whether a word is a store: the one kind that writes memory, and it always goes on behind itself.
+#[inline(always)]
 pub(crate) fn is_store(word: u32) -> bool
     ensures { result ≡ is_store (meaning word) }
 {
     matches!(decode(word), Inst::Store { .. })
+}
+
+/// The one register that a word may set, unless it is a store.
+#[inline(always)]
+pub(crate) fn target(word: u32) -> usize
+    ensures register { result ≡ rd word }
+    ensures bound { result < 32 }
+{
+    (word >> 7 & 0x1f) as usize
+}
+
+/// Sets a register.
+#[inline(always)]
+pub(crate) fn set_register(regs: &mut [u32; 32], r: usize, v: u32)
+    requires { r < 32 }
+    ensures { (n : ℕ) → slice_index regs.new n ≡ cond (nat_eq r n) v (slice_index regs.old n) }
+{
+    regs[r] = v;
 }
 
 /// Does the instruction of `word` as if it lay at `origin`, and answers where the run goes on. The pc
@@ -26,6 +46,7 @@ pub(crate) fn perform<M: Memory>(
     ensures pc { arch.new.pc ≡ arch.old.pc }
     ensures leaves { IfOk result (Leaves word (placed M.at origin arch.old) (placed M.at origin arch.new)) }
     ensures memory { is_store (meaning word) ≡ false → M.at arch.new.mem ≡ M.at arch.old.mem }
+    ensures registers { is_store (meaning word) ≡ false → (n : ℕ) → nat_eq (rd word) n ≡ false → slice_index arch.new.regs n ≡ slice_index arch.old.regs n }
     ensures err { OnErr result (placed M.at origin arch.new ≡ placed M.at origin arch.old) }
 {
     exec(alloc, arch, origin, word)

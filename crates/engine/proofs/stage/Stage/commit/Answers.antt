@@ -5,7 +5,7 @@ use Rattle.cells.specs.Cells.{value}
 use Rattle.cells.specs.Differ.{differ}
 use Rattle.speculation.specs.declared.Effect.TheVariants.{Committed, Squashed}
 use Rattle.speculation.specs.declared.Event.TheVariants as event
-use Rattle.layers.specs.Layered.{read_of}
+use Rattle.layers.specs.Layered.{seen_of}
 use Rattle.slave.proofs.Keeps.{on_err}
 use Rattle.slave.specs.Task.{shown as task_shown}
 use Rattle.engine.specs.Shown.{Shown, shown, AreTasksOf, given_up, retired, dropped_of, younger}
@@ -25,7 +25,7 @@ returns-in-Some-compare-clause-ok g c =
     let some : 0 < length c.args.self.now.tasks.items = search rules in
     let front = first_of (task_shown at) c.args.self.now.tasks.items x some c.in-Some.ensures.lookup in
     let ending = sym c.ending.ensures ∙ c.in-Some-ending.is in
-    let differs = ap (λ v. differ (read_of v) (value s.committed.arch)) (sym c.view.ensures) ∙ sym c.in-Some-compare.ensures.first in
+    let differs = ap (λ v. differ (seen_of at v).recorded (value s.committed.arch)) (sym c.view.ensures) ∙ sym c.in-Some-compare.ensures.first in
     does_by image slaves event.Commit s (Squashed c.in-Some-compare.differ) (Squashed c.in-Some-compare.differ) (given_up s) (shown at c.give_up.new.self) (λ _. Squashed c.in-Some-compare.differ) c.give_up.ensures.shown
     (does_squash image s k (younger s.tasks) front c.requires.tasks slaves c.in-Some-ending.ending c.in-Some-compare.differ ending differs)
 
@@ -48,7 +48,7 @@ returns-in_err-lay-clause-sure g c =
     let x = c.in-Some.front.now in
     let some : 0 < length c.args.self.now.tasks.items = search rules in
     let front = first_of (task_shown at) c.args.self.now.tasks.items x some c.in-Some.ensures.lookup in
-    let none = ap (λ v. differ (read_of v) (value s.committed.arch)) (sym c.view.ensures) ∙ sym c.in_default-compare.ensures.first in
+    let none = ap (λ v. differ (seen_of at v).recorded (value s.committed.arch)) (sym c.view.ensures) ∙ sym c.in_default-compare.ensures.first in
     on_err c.from_residual.result (costly_commit image s (task_shown at x) (younger s.tasks) front c.requires.tasks slaves c.in-Some-ending.ending (sym c.ending.ensures ∙ c.in-Some-ending.is) none)
 
 pub returns-clause-ok : goal.returns-clause-ok
@@ -62,7 +62,7 @@ returns-clause-ok g c =
     let e = c.in-Some-ending.ending in
     let some : 0 < length c.args.self.now.tasks.items = search rules in
     let front = first_of (task_shown at) c.args.self.now.tasks.items x some c.in-Some.ensures.lookup in
-    let none = ap (λ v. differ (read_of v) (value s.committed.arch)) (sym c.view.ensures) ∙ sym c.in_default-compare.ensures.first in
+    let none = ap (λ v. differ (seen_of at v).recorded (value s.committed.arch)) (sym c.view.ensures) ∙ sym c.in_default-compare.ensures.first in
     does_by image slaves event.Commit s (Committed k.steps (dropped_of e s.tasks)) (Committed c.steps-steps.result c.retire-dropped.result) (retired e (moved_on k s)) (shown at c.retire-dropped.new.self)
     (λ i. Committed (c.steps-steps.ensures i) (c.retire-dropped.ensures.dropped i))
     (c.retire-dropped.ensures.shown ∙ (λ i. retired e (record s { committed = c.in_ok-lay.ensures.ok i; position = c.in_ok-lay.ensures.position i })))

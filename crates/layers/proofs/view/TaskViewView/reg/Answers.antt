@@ -1,22 +1,33 @@
--- A register that was put, that was read before, and that is read for the first time.
-use Rattle.std.proofs.Common.{arith}
-use Rattle.layers.proofs.Calls.{reg_put, reg_read, reg_new}
+-- A register that was put, or the one of the checkpoint, which is marked.
+use Rattle.std.proofs.Common.{◌∙◌, sym, arith}
+use Rattle.std.specs.Prelude.{slice_index}
+use Rattle.layers.specs.Lines.{is_read, put_at}
+use Rattle.layers.specs.Layered.{base_of}
+use Rattle.layers.proofs.Cells.{reg_again, reg_new}
 use Rattle.layers.proofs.view.TaskViewView.reg.Goals as goal
 
-pub returns-in-Some-clause-value : goal.returns-in-Some-clause-value
-returns-in-Some-clause-value g c = (reg_put g.M.Memory.at c.args.self.now c.args.r c.in-Some.v (omega arith) c.in-Some.is).0
+pub returns-then-has_register-clause-value : goal.returns-then-has_register-clause-value
+returns-then-has_register-clause-value g c =
+    let v = c.args.self.now in
+    (reg_again (base_of g.M.Memory.at v) v.read_regs v.put_regs (slice_index v.set) (is_read v.kept.lines) (put_at v.kept.lines) c.args.r (omega arith)
+    (sym c.has_register.ensures ∙ c.if-has_register.true)).0
 
-pub returns-in-Some-clause-seen : goal.returns-in-Some-clause-seen
-returns-in-Some-clause-seen g c = (reg_put g.M.Memory.at c.args.self.now c.args.r c.in-Some.v (omega arith) c.in-Some.is).1
+pub returns-then-has_register-clause-seen : goal.returns-then-has_register-clause-seen
+returns-then-has_register-clause-seen g c =
+    let v = c.args.self.now in
+    (reg_again (base_of g.M.Memory.at v) v.read_regs v.put_regs (slice_index v.set) (is_read v.kept.lines) (put_at v.kept.lines) c.args.r (omega arith)
+    (sym c.has_register.ensures ∙ c.if-has_register.true)).1
 
-pub returns-in-Some-read_regs-clause-value : goal.returns-in-Some-read_regs-clause-value
-returns-in-Some-read_regs-clause-value g c = (reg_read g.M.Memory.at c.args.self.now c.args.r c.in-Some-read_regs.v (omega arith) c.in-None.is c.in-Some-read_regs.is).0
+pub returns-clause-value : goal.returns-clause-value
+returns-clause-value g c =
+    let v = c.args.self.now in
+    (reg_new (base_of g.M.Memory.at v) v.read_regs v.put_regs (slice_index v.set) (is_read v.kept.lines) (put_at v.kept.lines) c.args.r c.with_register-self.result (omega arith)
+    (sym c.has_register.ensures ∙ c.if-has_register.false)
+    (c.with_register-self.ensures)).0
 
-pub returns-in-Some-read_regs-clause-seen : goal.returns-in-Some-read_regs-clause-seen
-returns-in-Some-read_regs-clause-seen g c = (reg_read g.M.Memory.at c.args.self.now c.args.r c.in-Some-read_regs.v (omega arith) c.in-None.is c.in-Some-read_regs.is).1
-
-pub returns-in-None-read_regs-clause-value : goal.returns-in-None-read_regs-clause-value
-returns-in-None-read_regs-clause-value g c = (reg_new g.M.Memory.at c.args.self.now c.args.r (omega arith) (omega arith) c.in-None.is c.in-None-read_regs.is).0
-
-pub returns-in-None-read_regs-clause-seen : goal.returns-in-None-read_regs-clause-seen
-returns-in-None-read_regs-clause-seen g c = (reg_new g.M.Memory.at c.args.self.now c.args.r (omega arith) (omega arith) c.in-None.is c.in-None-read_regs.is).1
+pub returns-clause-seen : goal.returns-clause-seen
+returns-clause-seen g c =
+    let v = c.args.self.now in
+    (reg_new (base_of g.M.Memory.at v) v.read_regs v.put_regs (slice_index v.set) (is_read v.kept.lines) (put_at v.kept.lines) c.args.r c.with_register-self.result (omega arith)
+    (sym c.has_register.ensures ∙ c.if-has_register.false)
+    (c.with_register-self.ensures)).1

@@ -1,0 +1,211 @@
+//! Lines: 64 bytes of memory that lie together, with a mask of those that are recorded and one of those that were put.
+ghost use Rattle.std.specs.Prelude.{◌≡◌, ℕ, Bool, ◌+◌, ◌*◌, ◌/◌, ◌%◌, ◌<◌, ◌≤◌, ◌^◌, ◌||◌, ◌&&◌, not, cond, is_some, true, false, Some, None, nat_eq, OnOk, unwrap_or};
+ghost use Rattle.cells.specs.Differ.{is_other};
+ghost use Rattle.layers.specs.Marks.{has, of_four};
+ghost use Rattle.layers.specs.Lines.{put_in, FourIs, lesser, IsLeast};
+
+use memory::Memory;
+use std::alloc::{AllocError, Global};
+
+/// What is kept of 64 bytes that lie together.
+///
+/// A byte is recorded where its bit of `read` is set, and was put where its bit of `put` is. The value
+/// of a recorded byte is not kept: it stands in the checkpoint. Bytes that were not put are 0.
+#[derive(Drop, Clone, Copy)]
+pub struct Line {
+    pub read: u64,
+    pub put: u64,
+    pub bytes: [u8; 64],
+}
+
+/// Where four bytes stand.
+#[derive(Drop, Clone, Copy)]
+pub enum Four {
+    /// All of them in the checkpoint.
+    Checkpoint,
+    /// All of them were put.
+    Put(u32),
+    /// Some of them were put.
+    Both,
+}
+
+// Whether bit i is set.
+#[inline(always)]
+pub(crate) fn has(mask: u64, i: u32) -> bool
+    requires { i < 64 }
+    ensures { result ≡ has mask i }
+{
+    mask >> i & 1 == 1
+}
+
+// The mask with bit i.
+#[inline(always)]
+pub(crate) fn with(mask: u64, i: u32) -> u64
+    requires { i < 64 }
+    ensures { (j : ℕ) → has result j ≡ (has mask j || nat_eq i j) }
+{
+    mask | 1 << i
+}
+
+// The mask with four bits from i on.
+#[inline(always)]
+pub(crate) fn with_four(mask: u64, i: u32) -> u64
+    requires { i + 4 ≤ 64 }
+    ensures { (j : ℕ) → has result j ≡ (has mask j || of_four i j) }
+{
+    mask | 15 << i
+}
+
+// Four bits from i on.
+#[inline(always)]
+pub(crate) fn bits_from(mask: u64, i: u32) -> u64
+    requires { i + 4 ≤ 64 }
+    ensures none { result ≡ 0 → (j : ℕ) → of_four i j ≡ true → has mask j ≡ false }
+    ensures all { result ≡ 15 → (j : ℕ) → of_four i j ≡ true → has mask j ≡ true }
+{
+    mask >> i & 15
+}
+
+impl Line {
+    /// A line of which nothing is kept.
+    pub fn new() -> Line
+        ensures reads { (j : ℕ) → has result.read j ≡ false }
+        ensures puts { (j : ℕ) → put_in (Some result) j ≡ None }
+    {
+        Line {
+            read: 0,
+            put: 0,
+            bytes: [0; 64],
+        }
+    }
+
+    /// The byte that was put. One that was not is recorded.
+    #[inline(always)]
+    pub fn look(&mut self, i: u32) -> Option<u8>
+        requires { i < 64 }
+        ensures value { result ≡ put_in (Some self.old) i }
+        ensures puts { (j : ℕ) → put_in (Some self.new) j ≡ put_in (Some self.old) j }
+        ensures reads { (j : ℕ) → has self.new.read j ≡ (has self.old.read j || (nat_eq i j && not (is_some result))) }
+    {
+        if has(self.put, i) {
+            return Some(self.bytes[i as usize]);
+        }
+        self.read = with(self.read, i);
+        None
+    }
+
+    /// Four bytes. Where none of them was put they are recorded.
+    #[inline(always)]
+    pub fn look_four(&mut self, i: u32) -> Four
+        requires { i + 4 ≤ 64 }
+        ensures { FourIs result i self.old self.new }
+    {
+        let put = bits_from(self.put, i);
+        if put == 0 {
+            self.read = with_four(self.read, i);
+            return Four::Checkpoint;
+        }
+        if put == 15 {
+            let k = i as usize;
+            return Four::Put(u32::from_le_bytes([
+                self.bytes[k],
+                self.bytes[k + 1],
+                self.bytes[k + 2],
+                self.bytes[k + 3],
+            ]));
+        }
+        Four::Both
+    }
+
+    /// Puts a byte.
+    #[inline(always)]
+    pub fn write(&mut self, i: u32, v: u8)
+        requires { i < 64 }
+        ensures puts { (j : ℕ) → put_in (Some self.new) j ≡ cond (nat_eq i j) (Some v) (put_in (Some self.old) j) }
+        ensures read { self.new.read ≡ self.old.read }
+    {
+        self.put = with(self.put, i);
+        self.bytes[i as usize] = v;
+    }
+
+    // The lesser of what was found and an address, where the byte there is recorded and is another one in the second memory.
+    #[inline(always)]
+    fn lesser<M: Memory>(
+        &self,
+        i: u32,
+        a: u32,
+        base: &M,
+        mem: &M,
+        least: Option<u32>,
+    ) -> Option<u32>
+        requires { i < 64 }
+        ensures { result ≡ lesser least (is_other (cond (has self.now.read i) (Some (M.at base.now a)) None) (M.at mem.now a)) a }
+    {
+        if has(self.read, i) && base.get(a) != mem.get(a) {
+            return match least {
+                Some(k) => Some(k.min(a)),
+                None => Some(a),
+            };
+        }
+        least
+    }
+
+    /// The least of what was found and the addresses of this line whose byte is recorded and is another one in the second memory.
+    pub fn least_other<M: Memory>(
+        &self,
+        number: u32,
+        base: &M,
+        mem: &M,
+        found: Option<u32>,
+    ) -> Option<u32>
+        requires { number < 2 ^ 26 }
+        ensures { (p done : ℕ → Bool) → ((j : ℕ) → j < 64 → p (64 * number + j) ≡ is_other (cond (has self.now.read j) (Some (M.at base.now (64 * number + j))) None) (M.at mem.now (64 * number + j)))
+            → IsLeast p done found → IsLeast p (λ q. done q || nat_eq number (q / 64)) result }
+    {
+        if self.read == 0 {
+            return found;
+        }
+        let mut least = found;
+        for i in 0..64 {
+            least = self.lesser(i, 64 * number + i, base, mem, least);
+        }
+        least
+    }
+
+    // Puts what was put at one address.
+    #[inline(always)]
+    fn put_at<M: Memory>(
+        &self,
+        i: u32,
+        a: u32,
+        alloc: Global,
+        mem: &mut M,
+    ) -> Result<(), AllocError>
+        requires { i < 64 }
+        ensures { OnOk result ((q : ℕ) → M.at mem.new q ≡ cond (nat_eq a q) (unwrap_or (put_in (Some self.now) i) (M.at mem.old q)) (M.at mem.old q)) }
+    {
+        if has(self.put, i) {
+            return mem.put(alloc, a, &[self.bytes[i as usize]]);
+        }
+        Ok(())
+    }
+
+    /// Puts what was put in this line. Without memory for it some may be put.
+    pub fn put_into<M: Memory>(
+        &self,
+        number: u32,
+        alloc: Global,
+        mem: &mut M,
+    ) -> Result<(), AllocError>
+        requires { number < 2 ^ 26 }
+        ensures { OnOk result ((q : ℕ) → M.at mem.new q ≡ cond (nat_eq number (q / 64)) (unwrap_or (put_in (Some self.now) (q % 64)) (M.at mem.old q)) (M.at mem.old q)) }
+    {
+        if self.put == 0 {
+            return Ok(());
+        }
+        for i in 0..64 {
+            self.put_at(i, 64 * number + i, alloc, mem)?;
+        }
+        Ok(())
+    }
+}
