@@ -5,8 +5,7 @@ use Rattle.std.proofs.lemmas.Bool.{eqb-false, not-true}
 use Rattle.cells.specs.declared.Cell.{Cell}
 use Rattle.cells.specs.declared.Cell.TheVariants.{Pc, Reg, Byte}
 use Rattle.cells.specs.declared.Differ.{Differ}
-use Rattle.cells.specs.Cells.{IsCell}
-use Rattle.cells.specs.Differ.{is_other, differs, or_else, as_cell, first_reg, first_byte, told, differ, IsBefore, IsFirst, IsFirstDiffer}
+use Rattle.cells.specs.Differ.{is_other, differs, or_else, as_cell, first_reg, first_byte, told, differ, IsBefore, IsPlace, IsFirst, IsFirstDiffer}
 use Rattle.cells.proofs.FirstWhere.{first_where_none, first_where_some}
 
 -- a recorded value that is not the one found
@@ -31,26 +30,26 @@ module _ (recorded : Cell → Option ℕ) (found : Cell → ℕ) where
   differ_byte o p q r = λ i. of_parts (p i) (q i) (r i)
 
   -- what is told of a differing cell, when none differs before it
-  is_first : (x : Cell) → IsCell x → differs recorded found x ≡ true → ((y : Cell) → IsCell y → IsBefore y x → differs recorded found y ≡ false) → IsFirst recorded found (told recorded found x)
+  is_first : (x : Cell) → IsPlace x → differs recorded found x ≡ true → ((y : Cell) → IsPlace y → IsBefore y x → differs recorded found y ≡ false) → IsFirst recorded found (told recorded found x)
   is_first x cell d before =
-      let t = other_told (recorded x) (found x) d in record { is_cell = cell; was_recorded = t.0; is_found = refl; other = t.1; first = before }
+      let t = other_told (recorded x) (found x) d in record { is_place = cell; was_recorded = t.0; is_found = refl; other = t.1; first = before }
 
-  before_pc : (y : Cell) → IsCell y → IsBefore y Pc → differs recorded found y ≡ false
+  before_pc : (y : Cell) → IsPlace y → IsBefore y Pc → differs recorded found y ≡ false
   before_pc Pc c b = absurd b
   before_pc (Reg n) c b = absurd b
   before_pc (Byte a) c b = absurd b
 
-  before_reg : (r : ℕ) → differs recorded found Pc ≡ false → ((n : ℕ) → n < r → differs recorded found (Reg n) ≡ false) → (y : Cell) → IsCell y → IsBefore y (Reg r) → differs recorded found y ≡ false
+  before_reg : (r : ℕ) → differs recorded found Pc ≡ false → ((n : ℕ) → n < r → differs recorded found (Reg n) ≡ false) → (y : Cell) → IsPlace y → IsBefore y (Reg r) → differs recorded found y ≡ false
   before_reg r p q Pc c b = p
   before_reg r p q (Reg n) c b = q n b
   before_reg r p q (Byte a) c b = absurd b
 
-  before_byte : (k : ℕ) → differs recorded found Pc ≡ false → ((n : ℕ) → n < 32 → differs recorded found (Reg n) ≡ false) → ((a : ℕ) → a < k → differs recorded found (Byte a) ≡ false) → (y : Cell) → IsCell y → IsBefore y (Byte k) → differs recorded found y ≡ false
+  before_byte : (k : ℕ) → differs recorded found Pc ≡ false → ((n : ℕ) → n < 32 → differs recorded found (Reg n) ≡ false) → ((a : ℕ) → a < k → differs recorded found (Byte a) ≡ false) → (y : Cell) → IsPlace y → IsBefore y (Byte k) → differs recorded found y ≡ false
   before_byte k p q r Pc c b = p
   before_byte k p q r (Reg n) c b = q n c
   before_byte k p q r (Byte a) c b = r a b
 
-  nowhere : differs recorded found Pc ≡ false → ((n : ℕ) → n < 32 → differs recorded found (Reg n) ≡ false) → ((a : ℕ) → a < 2 ^ 32 → differs recorded found (Byte a) ≡ false) → (y : Cell) → IsCell y → differs recorded found y ≡ false
+  nowhere : differs recorded found Pc ≡ false → ((n : ℕ) → n < 32 → differs recorded found (Reg n) ≡ false) → ((a : ℕ) → a < 2 ^ 32 → differs recorded found (Byte a) ≡ false) → (y : Cell) → IsPlace y → differs recorded found y ≡ false
   nowhere p q r Pc c = p
   nowhere p q r (Reg n) c = q n c
   nowhere p q r (Byte a) c = r a c

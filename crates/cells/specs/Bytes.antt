@@ -18,6 +18,10 @@ abbrev pub number : ℕ → ℕ → (ℕ → ℕ) → ℕ
 number zero a m = 0
 number (suc k) a m = m (a % 2 ^ 32) + 2 ^ 8 * number k (a + 1) m
 
+-- the word of four bytes that a memory holds at a pc
+abbrev pub word_of : (ℕ → ℕ) → ℕ → ℕ
+word_of mem pc = number 4 pc mem
+
 -- the cells from a on with these bytes
 abbrev pub byte_puts : ℕ → List ℕ → List (Cell × ℕ)
 byte_puts a [] = []

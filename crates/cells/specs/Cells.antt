@@ -1,5 +1,5 @@
 -- The state of a machine between calls, seen as the values of its cells.
-use Rattle.std.specs.Prelude.{ℕ, ◌<◌, ◌^◌, Bool, true, false, nat_eq}
+use Rattle.std.specs.Prelude.{◌≡◌, ℕ, ◌%◌, ◌<◌, ◌^◌, Bool, true, false, nat_eq}
 use Rattle.cells.specs.declared.Cell.{Cell}
 use Rattle.cells.specs.declared.Cell.TheVariants.{Pc, Reg, Byte}
 
@@ -18,11 +18,15 @@ value s (Byte a) = s.mem a
 abbrev pub from_cells : (Cell → ℕ) → Arch
 from_cells f = record { pc = f Pc; regs = λ n. f (Reg n); mem = λ a. f (Byte a) }
 
--- the cells that there are: 32 registers, and 2 ^ 32 bytes
+-- the cells that there are: the pc, the registers 1 to 31, and 2 ^ 32 bytes
 abbrev pub IsCell : Cell → Type 0
 IsCell Pc = Unit {0}
-IsCell (Reg n) = n < 32
+IsCell (Reg n) = (0 < n) × (n < 32)
 IsCell (Byte a) = a < 2 ^ 32
+
+-- a program counter: an address of 32 bits, and a multiple of 4
+abbrev pub IsPc : ℕ → Type 0
+IsPc a = (a % 4 ≡ 0) × (a < 2 ^ 32)
 
 abbrev pub is_pc : Cell → Bool
 is_pc Pc = true

@@ -3,7 +3,6 @@ use Rattle.std.specs.Prelude.{◌≡◌, ℕ, ◌<◌, ◌^◌, zero, suc, Bool,
 use Rattle.cells.specs.declared.Cell.{Cell}
 use Rattle.cells.specs.declared.Cell.TheVariants.{Pc, Reg, Byte}
 use Rattle.cells.specs.declared.Differ.{Differ}
-use Rattle.cells.specs.Cells.{IsCell}
 
 abbrev pub keep_or : Option ℕ → Bool → ℕ → Option ℕ
 keep_or (Some k) b n = Some k
@@ -59,14 +58,20 @@ IsBefore (Byte a) Pc = ⊥
 IsBefore (Byte a) (Reg n) = ⊥
 IsBefore (Byte a) (Byte b) = a < b
 
+-- the numbers that are looked at: those of cells, and register 0, of which no step records a value
+abbrev pub IsPlace : Cell → Type 0
+IsPlace Pc = Unit {0}
+IsPlace (Reg n) = n < 32
+IsPlace (Byte a) = a < 2 ^ 32
+
 -- what is told is a recorded cell with its two values, which are not the same, and no cell before it differs
 pub record IsFirst (recorded : Cell → Option ℕ) (found : Cell → ℕ) (d : Differ) : Type 0 where
-  pub is_cell : IsCell d.cell
+  pub is_place : IsPlace d.cell
   pub was_recorded : recorded d.cell ≡ Some d.predicted
   pub is_found : found d.cell ≡ d.found
   pub other : d.predicted ≡ d.found → ⊥
-  pub first : (x : Cell) → IsCell x → IsBefore x d.cell → differs recorded found x ≡ false
+  pub first : (x : Cell) → IsPlace x → IsBefore x d.cell → differs recorded found x ≡ false
 
 abbrev pub IsFirstDiffer : (Cell → Option ℕ) → (Cell → ℕ) → Option Differ → Type 0
-IsFirstDiffer recorded found None = (x : Cell) → IsCell x → differs recorded found x ≡ false
+IsFirstDiffer recorded found None = (x : Cell) → IsPlace x → differs recorded found x ≡ false
 IsFirstDiffer recorded found (Some d) = IsFirst recorded found d

@@ -1,5 +1,5 @@
 -- The whole state of a run, and steps one after another.
-use Rattle.std.specs.Prelude.{ℕ, zero, suc, Bool, true, false, cond, List, ◌++◌, Option, Some, None}
+use Rattle.std.specs.Prelude.{◌≡◌, ℕ, ◌+◌, ◌≤◌, zero, suc, Bool, true, false, cond, List, ◌++◌, Option, Some, None}
 use Rattle.cells.specs.declared.End.{End}
 use Rattle.cells.specs.Cells.{Arch}
 use Rattle.cells.specs.Machine.{Machine}
@@ -39,3 +39,12 @@ step_by m call s =
 abbrev pub iterate : {A : Type 0} → (A → A) → A → ℕ → A
 iterate f s zero = s
 iterate f s (suc k) = f (iterate f s k)
+
+-- the run that is at seq k after k steps ends within n of them
+abbrev pub EndsWithin : (ℕ → State) → ℕ → Type 0
+EndsWithin seq n = (e : ℕ) × (e ≤ n) × (is_over (seq e) ≡ true)
+
+-- how many of the d positions after o pass
+abbrev pub count_after : (ℕ → Bool) → ℕ → ℕ → ℕ
+count_after test o zero = 0
+count_after test o (suc d) = cond (test (suc (o + d))) 1 0 + count_after test o d

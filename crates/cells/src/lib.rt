@@ -1,8 +1,10 @@
 //! The cells of a machine, the ways a run ends, and the laws of steps that read and write cells.
 #![tactic(auto)]
 
-ghost use Rattle.std.specs.Prelude.{◌≡◌, ℕ, Option};
-ghost use Rattle.cells.specs.Cells.{Arch};
+ghost use Rattle.std.specs.Prelude.{◌≡◌, ℕ, true, Option, Some, is_some};
+ghost use Rattle.cells.specs.declared.Cell.{Cell};
+ghost use Rattle.cells.specs.declared.Differ.{Differ};
+ghost use Rattle.cells.specs.Cells.{Arch, IsCell};
 ghost use Rattle.cells.specs.Machine.{Machine, IsLocal};
 ghost use Rattle.cells.specs.Task.{moves, said, recorded_values, IsQuiet, Matches, apply};
 ghost use Rattle.cells.specs.Differ.{differ, IsFirstDiffer};
@@ -54,7 +56,9 @@ pub fn jumps()
 {}
 
 /// `differ` tells the first differing cell in the order of cells, with its two values, and tells
-/// none exactly where none differs.
+/// none exactly where none differs. Where cells alone are recorded it tells a cell.
 pub fn differ_is_first()
-    ensures { (recorded : Cell → Option ℕ) (found : Cell → ℕ) → IsFirstDiffer recorded found (differ recorded found) }
+    ensures first { (recorded : Cell → Option ℕ) (found : Cell → ℕ) → IsFirstDiffer recorded found (differ recorded found) }
+    ensures cell { (recorded : Cell → Option ℕ) (found : Cell → ℕ) (d : Differ) → ((x : Cell) → is_some (recorded x) ≡ true → IsCell x)
+        → differ recorded found ≡ Some d → IsCell d.cell }
 {}

@@ -3,7 +3,7 @@ use Rattle.std.proofs.Common.{◌≡◌, ℕ, zero, suc, ◌+◌, ◌*◌, ◌%�
 use lib.Dec.{eqb}
 use Rattle.std.specs.Prelude.{nat_eq}
 use Rattle.std.specs.List.{flat_map}
-use Rattle.std.proofs.lemmas.Bool.{or_left, or_right, or_cases, eq-eqb}
+use Rattle.std.proofs.lemmas.Bool.{or_left, or_right, or_cases, eq-eqb, eqb-false}
 use Rattle.rv_word.specs.declared.inst.Inst.{Inst}
 use Rattle.rv_word.specs.Masks.{sources}
 use Rattle.cells.specs.declared.Cell.{Cell}
@@ -55,15 +55,17 @@ byte_cells_below (suc k) a x e =
 register_cells_below : (rs : List ℕ) (x : Cell) → AreBelow 32 rs → among (flat_map register_cell rs) x ≡ true → IsCell x
 register_cells_below [] x below e = absurd (true≢false (sym e))
 register_cells_below (r ∷ rs) x below e =
-    ⊎_elim (λ (h : among (register_cell r) x ≡ true). here (eqb r 0) x h) (λ (h : among (flat_map register_cell rs) x ≡ true). register_cells_below rs x below.1 h)
+    ⊎_elim (λ (h : among (register_cell r) x ≡ true). here (eqb r 0) refl x h) (λ (h : among (flat_map register_cell rs) x ≡ true). register_cells_below rs x below.1 h)
     (or_cases (among (register_cell r) x) (among (flat_map register_cell rs) x) (sym (among_append (register_cell r) (flat_map register_cell rs) x) ∙ e))
   where
-    here : (b : Bool) (x : Cell) → among (cond b [] (Reg r ∷ [])) x ≡ true → IsCell x
-    here true x h = absurd (true≢false (sym h))
-    here false Pc h = tt
-    here false (Byte a) h = absurd (true≢false (sym h))
-    here false (Reg n) h =
-        ⊎_elim (λ (e : nat_eq r n ≡ true). subst (λ k. k < 32) (eqb-true r n e) below.0) (λ (e : false ≡ true). absurd (true≢false (sym e)))
+    here : (b : Bool) → eqb r 0 ≡ b → (x : Cell) → among (cond b [] (Reg r ∷ [])) x ≡ true → IsCell x
+    here true z x h = absurd (true≢false (sym h))
+    here false z Pc h = tt
+    here false z (Byte a) h = absurd (true≢false (sym h))
+    here false z (Reg n) h =
+        ⊎_elim
+        (λ (e : nat_eq r n ≡ true). subst (λ k. (0 < k) × (k < 32)) (eqb-true r n e) ((let some = eqb-false r 0 z in omega (arith, some)), below.0))
+        (λ (e : false ≡ true). absurd (true≢false (sym e)))
         (or_cases (nat_eq r n) false h)
 
 -- values that agree on the cells that the instruction reads
@@ -121,6 +123,9 @@ module _ (i : Inst) where
   effects : (c s : Arch) → SameSeen (doing i) c s → effect_at i s.pc (value s) ≡ effect_at i c.pc (value c)
   effects c s h = ap (λ p. effect_at i p (value s)) h.pc ∙ sym (same_effect (value c) (value s) i c.pc (λ x e. sym (h.each x e))).0
 
+  pub doing_flow : (c s : Arch) → SameSeen (doing i) c s → (effect_at i s.pc (value s)).flow ≡ (effect_at i c.pc (value c)).flow
+  doing_flow c s h = ap (λ (e : Effect). e.flow) (effects c s h)
+
   reads_same : (c s : Arch) → SameSeen (doing i) c s → cells i (value s) ≡ cells i (value c)
   reads_same c s h = sym (same_effect (value c) (value s) i c.pc (λ x e. sym (h.each x e))).1
 
@@ -172,6 +177,11 @@ module _ (does : ℕ → Machine) (each : (w : ℕ) → IsLocal (does w)) where
 
   inner : (c s : Arch) → SameSeen Whole c s → SameSeen (does (word_at c)) c s
   inner c s h = record { pc = h.pc; each = λ x e. h.each x (or_right (among (byte_cells 4 c.pc) x) _ e) }
+
+  -- what does the same by its word does the same by the word that is fetched
+  pub fetching_same : {A : Type 0} (f : ℕ → Arch → A) → ((w : ℕ) (c s : Arch) → SameSeen (does w) c s → f w s ≡ f w c)
+      → (c s : Arch) → SameSeen Whole c s → f (word_at s) s ≡ f (word_at c) c
+  fetching_same f same c s h = ap (λ w. f w s) (word_same c s h) ∙ same (word_at c) c s (inner c s h)
 
   pub fetching_local : IsLocal (fetching does)
   fetching_local = record {

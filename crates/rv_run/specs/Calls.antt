@@ -1,19 +1,18 @@
 -- What calls and ends do to a state, and one step of a run. The numbers of calls are those of Linux for RISC-V; their
 -- effects are this project's.
 use Rattle.std.specs.Prelude.{ℕ, ◌+◌, ◌-◌, ◌^◌, min, Bool, false, ◌&&◌, ◌||◌, not, cond, nat_eq, nat_le, ◌==◌, if◌then◌else◌, ◌++◌, length, take, drop, Some}
-use Rattle.rv_word.specs.Meaning.{meaning}
 use Rattle.cells.specs.declared.Cell.{Cell}
 use Rattle.cells.specs.declared.Cell.TheVariants.{Pc, Reg, Byte}
 use Rattle.cells.specs.declared.End.{End}
 use Rattle.cells.specs.declared.End.TheVariants.{Exit, Break as by_break, Illegal as by_illegal, Misfetch as by_misfetch}
-use Rattle.cells.specs.Cells.{Arch, value}
+use Rattle.cells.specs.Cells.{Arch}
 use Rattle.cells.specs.Bytes.{byte_cells, bytes_from, after_puts}
 use Rattle.cells.specs.Run.{State, step_by}
 use Rattle.cells.specs.Seen.{among}
 use Rattle.rv_run.specs.declared.Flow.{Flow}
 use Rattle.rv_run.specs.declared.Flow.TheVariants.{Next, Call, Break, Illegal, Misfetch}
-use Rattle.rv_run.specs.Effect.{after, effect_at}
-use Rattle.rv_run.specs.Machine.{word_at, machine}
+use Rattle.rv_run.specs.Effect.{after}
+use Rattle.rv_run.specs.Machine.{word_at, flow_of, machine}
 
 -- the number -n in 32 bits
 abbrev pub minus : ℕ → ℕ
@@ -88,7 +87,7 @@ stopped (Illegal word) s = ended (by_illegal word) s
 stopped (Misfetch target) s = ended (by_misfetch target) s
 
 abbrev pub flow_at : State → Flow
-flow_at s = (effect_at (meaning (word_at s.arch)) s.arch.pc (value s.arch)).flow
+flow_at s = flow_of (word_at s.arch) s.arch
 
 -- the call or the end at the pc
 unfoldable pub call : State → State

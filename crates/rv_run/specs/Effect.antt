@@ -71,6 +71,10 @@ store_size Sb = 1
 store_size Sh = 2
 store_size Sw = 4
 
+abbrev pub is_store : Inst → Bool
+is_store (Store kind rs1 rs2 off) = true
+is_store _ = false
+
 -- how many bytes are loaded, and from where on, by the value of the first register
 abbrev pub load_count : Inst → ℕ
 load_count (Load kind rd rs1 off) = load_size kind

@@ -3,7 +3,7 @@ use Rattle.std.specs.Prelude.{ℕ, Bool, true, false, not, ◌||◌, is_some, []
 use Rattle.rv_word.specs.declared.inst.Inst.{Inst}
 use Rattle.rv_word.specs.Meaning.{meaning}
 use Rattle.cells.specs.Cells.{Arch, value, from_cells}
-use Rattle.cells.specs.Bytes.{byte_cells, number}
+use Rattle.cells.specs.Bytes.{byte_cells, word_of}
 use Rattle.cells.specs.Machine.{Machine}
 use Rattle.cells.specs.Seen.{among, puts_of, given_values}
 use Rattle.rv_run.specs.declared.Flow.{Flow}
@@ -23,6 +23,10 @@ pc_after pc _ = pc
 unfoldable pub moved : Effect → Arch → Arch
 moved e s = record (from_cells (given_values (puts_of e.puts) (value s))) { pc = pc_after s.pc e.flow }
 
+-- where the run goes on after this word, or why the word alone doesn't say
+abbrev pub flow_of : ℕ → Arch → Flow
+flow_of w s = (effect_at (meaning w) s.pc (value s)).flow
+
 -- this instruction, done where the pc is
 abbrev pub doing : Inst → Machine
 doing i = record {
@@ -39,7 +43,7 @@ exec w = doing (meaning w)
 
 -- the word at the pc
 abbrev pub word_at : Arch → ℕ
-word_at s = number 4 s.pc s.mem
+word_at s = word_of s.mem s.pc
 
 -- the machine that fetches the word at the pc, reading its four bytes, and does what that word does
 abbrev pub fetching : (ℕ → Machine) → Machine

@@ -3,11 +3,11 @@
 
 ghost use Rattle.std.specs.Prelude.{◌≡◌, ℕ, false};
 ghost use Rattle.cells.specs.declared.Cell.{Cell};
-ghost use Rattle.cells.specs.Cells.{value, is_pc};
-ghost use Rattle.cells.specs.Machine.{IsLocal};
+ghost use Rattle.cells.specs.Cells.{Arch, value, is_pc};
+ghost use Rattle.cells.specs.Machine.{IsLocal, SameSeen};
 ghost use Rattle.cells.specs.Run.{State, is_over};
-ghost use Rattle.rv_run.specs.Machine.{machine, exec};
-ghost use Rattle.rv_run.specs.Calls.{step, writes};
+ghost use Rattle.rv_run.specs.Machine.{machine, exec, flow_of};
+ghost use Rattle.rv_run.specs.Calls.{step, writes, flow_at};
 
 /// Where a run goes on after an instruction, or why the instruction alone doesn't say.
 #[derive(Clone, Copy, Debug, PartialEq, Eq)]
@@ -25,10 +25,13 @@ pub enum Flow {
 }
 
 /// What a step does rests on the pc and on the cells that it reads: for the word that is fetched,
-/// and for a word that is given.
+/// and for a word that is given. So does where the run goes on, and why it stops: at a call, at
+/// EBREAK, at which word that means nothing, and at which target that is no multiple of 4.
 pub fn steps_are_local()
     ensures fetched { IsLocal machine }
     ensures given { (word : ℕ) → IsLocal (exec word) }
+    ensures fetched_flow { (c s : State) → SameSeen machine c.arch s.arch → flow_at s ≡ flow_at c }
+    ensures given_flow { (word : ℕ) (c s : Arch) → SameSeen (exec word) c s → flow_of word s ≡ flow_of word c }
 {}
 
 /// What a step doesn't write stays, at calls too.
