@@ -1,3 +1,3 @@
 mod Directories
-mod Puts
+pub mod Puts
 mod Pages
