@@ -116,3 +116,32 @@ pub early_at : (due limit arrivals n i s most : ℕ) (ws : List Wait) (d : Wait)
 early_at due limit arrivals n i s most ws d l same is h e =
     let next : i + 1 ≡ suc i = omega arith in
     early_shown due limit arrivals i ws d l (omega (arith, same, is, h)) (subst (λ k. IsEarly due limit (shown_in arrivals (drop k ws))) next e)
+
+-- ---- whether one waits
+
+-- one that waits is shown
+pub some_shown : (arrivals k : ℕ) (ws : List Wait) (d : Wait) → k < length ws → arrivals < (get_or ws k d).last → nat_lt 0 (length (shown_in arrivals ws)) ≡ true
+some_shown arrivals k [] d l h = absurd (omega (arith, l))
+some_shown arrivals zero (w ∷ ws) d l h =
+    ap (λ b. nat_lt 0 (length (cond b (record { since = w.since; left = w.last - arrivals } ∷ shown_in arrivals ws) (shown_in arrivals ws)))) (lt-ltb arrivals w.last h)
+    ∙ lt-ltb 0 (suc (length (shown_in arrivals ws))) (omega arith)
+some_shown arrivals (suc k) (w ∷ ws) d l h = go (nat_lt arrivals w.last) (some_shown arrivals k ws d (omega (arith, l)) h)
+  where
+    go : (b : Bool) → nat_lt 0 (length (shown_in arrivals ws)) ≡ true
+        → nat_lt 0 (length (cond b (record { since = w.since; left = w.last - arrivals } ∷ shown_in arrivals ws) (shown_in arrivals ws))) ≡ true
+    go true e = lt-ltb 0 (suc (length (shown_in arrivals ws))) (omega arith)
+    go false e = e
+
+-- one that waits no more is not
+pub none_shown : (arrivals k : ℕ) (ws : List Wait) (d : Wait) → k < length ws → (get_or ws k d).last ≤ arrivals
+    → shown_in arrivals (drop (suc k) ws) ≡ [] → shown_in arrivals (drop k ws) ≡ []
+none_shown arrivals k [] d l h none = absurd (omega (arith, l))
+none_shown arrivals zero (w ∷ ws) d l h none =
+    ap (λ b. cond b (record { since = w.since; left = w.last - arrivals } ∷ shown_in arrivals ws) (shown_in arrivals ws)) (le-ltb arrivals w.last h) ∙ none
+none_shown arrivals (suc k) (w ∷ ws) d l h none = none_shown arrivals k ws d (omega (arith, l)) h none
+
+pub all_dropped : (arrivals k : ℕ) (ws : List Wait) → length ws ≤ k → shown_in arrivals (drop k ws) ≡ []
+all_dropped arrivals zero [] l = refl
+all_dropped arrivals zero (w ∷ ws) l = absurd (omega (arith, l))
+all_dropped arrivals (suc k) [] l = refl
+all_dropped arrivals (suc k) (w ∷ ws) l = all_dropped arrivals k ws (omega (arith, l))

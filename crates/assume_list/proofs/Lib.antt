@@ -7,4 +7,4 @@ pub mod Watched
 pub mod Turns
 pub mod Judged
 pub mod Quiet
-pub mod Placed
+pub mod Claimed

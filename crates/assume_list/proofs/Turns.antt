@@ -1,7 +1,7 @@
 -- How the anchors that wait go on with the run, and what they tell.
-use Rattle.std.proofs.Common.{◌≡◌, ◌⊎◌, inl, inr, ℕ, zero, suc, ◌+◌, ◌<◌, ◌≤◌, min, Bool, true, false, not, ◌&&◌, cond, List, [], ◌∷◌, ◌++◌, Option, Some, None, refl, sym, ap, ◌∙◌, subst, ⊎_elim, true≢false, arith}
+use Rattle.std.proofs.Common.{◌≡◌, ◌⊎◌, inl, inr, ℕ, zero, suc, ◌+◌, ◌<◌, ◌≤◌, min, Bool, true, false, not, ◌&&◌, ◌||◌, cond, List, [], ◌∷◌, ◌++◌, length, Option, Some, None, refl, sym, ap, ◌∙◌, subst, ⊎_elim, true≢false, arith}
 use Rattle.std.specs.Prelude.{nat_eq, nat_lt}
-use Rattle.std.proofs.lemmas.Bool.{eqb-true, lt-ltb, ltb-true, or_cases, and_parts, not-true, cases_eq, cases_lt}
+use Rattle.std.proofs.lemmas.Bool.{eqb-true, lt-ltb, ltb-true, le-ltb, or_cases, and_parts, not-true, cases_eq, cases_lt}
 use Rattle.cells.specs.declared.End.{End}
 use Rattle.cells.specs.Run.{State, is_over, is_end}
 use Rattle.rv_run.specs.Machine.{machine}
@@ -16,7 +16,7 @@ use Rattle.assume_laws.specs.Waits.{passed_on, joined, is_overdue, waiting, at_h
 use Rattle.assume_laws.specs.Laws.{IsSearched}
 use Rattle.assume_laws.proofs.Spans.{going_before}
 use Rattle.assume_laws.proofs.Waits.{waits_tell}
-use Rattle.assume_list.specs.Passes.{HasTurned, bound_after, IsReached, IsClean, IsLate, IsFailed, IsAwaited}
+use Rattle.assume_list.specs.Passes.{HasTurned, bound_after, IsReached, IsClean, IsLate, IsFailed, IsAwaited, IsAwake}
 
 pub overdue_near : (limit j : ℕ) (ws : List Waiting) → is_overdue limit j ws ≡ true → limit ≤ j
 overdue_near limit j [] h = absurd (true≢false (sym h))
@@ -44,6 +44,29 @@ goes_not None p last r e h = elim (cases_lt p last) [
   | inr above ↦ inr above
 ]
 goes_not (Some end) p last r e h = inl refl
+
+-- the wait goes on where an anchor waits or may come
+pub wakes : (o : Option End) (p bound last : ℕ) (ws : List Waiting) (r : Bool) → r ≡ (not (is_end o) && (nat_lt p last && (nat_lt p bound || nat_lt 0 (length ws)))) → r ≡ true
+    → (is_end o ≡ false) × ((p < last) × (bound ≤ p → ws ≡ [] → ⊥))
+wakes o p bound last ws r e h =
+    let q = and_parts (not (is_end o)) (nat_lt p last && (nat_lt p bound || nat_lt 0 (length ws))) (sym e ∙ h) in
+    let t = and_parts (nat_lt p last) (nat_lt p bound || nat_lt 0 (length ws)) q.1 in
+    (not-true _ q.0, (ltb-true p last t.0, λ past none. true≢false (sym t.1 ∙ (λ i. (le-ltb p bound past) i || nat_lt 0 (length (none i))))))
+
+pub wakes_not : (o : Option End) (p bound last : ℕ) (ws : List Waiting) (r : Bool) → r ≡ (not (is_end o) && (nat_lt p last && (nat_lt p bound || nat_lt 0 (length ws)))) → r ≡ false
+    → (is_end o ≡ true) ⊎ ((last ≤ p) ⊎ ((bound ≤ p) × (ws ≡ [])))
+wakes_not (Some end) p bound last ws r e h = inl refl
+wakes_not None p bound last ws r e h = inr (elim (cases_lt p last) [
+  | inr far ↦ inl far
+  | inl near ↦ inr (elim (cases_lt p bound) [
+    | inl below ↦ absurd (true≢false (sym (λ i. (lt-ltb p last near) i && ((lt-ltb p bound below) i || nat_lt 0 (length ws))) ∙ sym e ∙ h))
+    | inr past ↦ (past, nobody ws (sym (λ i. (lt-ltb p last near) i && ((le-ltb p bound past) i || nat_lt 0 (length ws))) ∙ sym e ∙ h))
+  ])
+])
+  where
+    nobody : (ws : List Waiting) → nat_lt 0 (length ws) ≡ false → ws ≡ []
+    nobody [] n = refl
+    nobody (w ∷ ws) n = absurd (true≢false (sym (lt-ltb 0 (suc (length ws)) (omega arith)) ∙ n))
 
 module _ (start : State) (image : Distilled) where
   -- ---- two bounds
@@ -147,6 +170,61 @@ module _ (start : State) (image : Distilled) where
   awaited valid bound p s ws r done = ⊎_elim
       (λ (over : is_over s ≡ true). over_before valid bound p r.searched (ap is_over (sym r.state) ∙ over))
       (λ (far : bound + image.limit ≤ p). far_before valid bound p (is_over (state_at start p)) refl r.searched far)
+      done
+
+  -- ---- where none waits any more
+
+  no_more_wait : (bound j : ℕ) → bound ≤ j → waiting start image bound j ≡ [] → waiting start image bound (suc j) ≡ []
+  no_more_wait bound j past none =
+      next_waits bound j
+      ∙ ap (passed_on (machine.stops (arch_at start j)) (is_anchor_pc image (pc_at start (suc j)))) (stays (count_of image (pc_at start j)) ∙ none)
+      ∙ empty (machine.stops (arch_at start j)) (is_anchor_pc image (pc_at start (suc j)))
+    where
+      stays : (o : Option ℕ) → joined bound j o (waiting start image bound j) ≡ waiting start image bound j
+      stays None = refl
+      stays (Some count) = ap (λ b. cond b (waiting start image bound j ++ record { since = j; left = count } ∷ []) (waiting start image bound j)) (le-ltb j bound past)
+
+      empty : (stops arrives : Bool) → passed_on stops arrives [] ≡ []
+      empty true arrives = refl
+      empty false true = refl
+      empty false false = refl
+
+  none_overdue : (bound j : ℕ) → bound ≤ j → waiting start image bound j ≡ [] → overdue start image bound j ≡ false
+  none_overdue bound j past none = ap (is_overdue image.limit j) (stays (count_of image (pc_at start j)) ∙ none)
+    where
+      stays : (o : Option ℕ) → joined bound j o (waiting start image bound j) ≡ waiting start image bound j
+      stays None = refl
+      stays (Some count) = ap (λ b. cond b (waiting start image bound j ++ record { since = j; left = count } ∷ []) (waiting start image bound j)) (le-ltb j bound past)
+
+  none_later : IsImage image → (fuel bound p : ℕ) → bound + image.limit ≤ p + fuel → bound ≤ p → waiting start image bound p ≡ [] → IsSearched start image bound p → IsAwaited start image bound None
+  none_later valid zero bound p far past none searched = far_before valid bound p (is_over (state_at start p)) refl searched (omega (arith, far))
+  none_later valid (suc fuel) bound p far past none searched =
+      go (is_over (state_at start p)) refl (λ e. none_later valid fuel bound (suc p) (omega (arith, far)) (omega (arith, past)) (no_more_wait bound p past none) (record {
+        going = λ i l. ⊎_elim (λ (s : i ≡ p). subst (λ n. is_over (state_at start n) ≡ false) (sym s) e) (λ (ne : i ≡ p → ⊥). searched.going i (omega (arith, l, ne))) (cases_eq i p);
+        none = λ i l. ⊎_elim (λ (s : i ≡ p). subst (λ n. overdue start image bound n ≡ false) (sym s) (none_overdue bound p past none)) (λ (ne : i ≡ p → ⊥). searched.none i (omega (arith, l, ne))) (cases_eq i p);
+      }))
+    where
+      go : (o : Bool) → is_over (state_at start p) ≡ o → (is_over (state_at start p) ≡ false → IsAwaited start image bound None) → IsAwaited start image bound None
+      go true e later = over_before valid bound p searched e
+      go false e later = later e
+
+  -- a step past the bound is taken while an anchor waits
+  pub awake_on : (bound from j k : ℕ) (s : State) (ws : List Waiting) → IsReached start image bound j s ws → k ≡ j + 1 → (bound ≤ j → ws ≡ [] → ⊥)
+      → IsAwake start image bound from j → IsAwake start image bound from k
+  awake_on bound from j k s ws r k_is here before i low past l none = ⊎_elim
+      (λ (e : i ≡ j). here (omega (arith, past, e)) (r.list ∙ ap (waiting start image bound) (sym e) ∙ none))
+      (λ (ne : i ≡ j → ⊥). before i low past (omega (arith, l, k_is, ne)) none)
+      (cases_eq i j)
+
+  -- the run has ended, or gone a limit further, or no anchor waits any more
+  pub awaited_early : IsImage image → (bound p : ℕ) (s : State) (ws : List Waiting) → IsReached start image bound p s ws
+      → (is_over s ≡ true) ⊎ ((bound + image.limit ≤ p) ⊎ ((bound ≤ p) × (ws ≡ []))) → IsAwaited start image bound None
+  awaited_early valid bound p s ws r done = ⊎_elim
+      (λ (over : is_over s ≡ true). awaited valid bound p s ws r (inl over))
+      (λ (other : (bound + image.limit ≤ p) ⊎ ((bound ≤ p) × (ws ≡ []))). ⊎_elim
+      (λ (far : bound + image.limit ≤ p). awaited valid bound p s ws r (inr far))
+      (λ (none : (bound ≤ p) × (ws ≡ [])). none_later valid (bound + image.limit) bound p (omega arith) none.0 (sym r.list ∙ none.1) r.searched)
+      other)
       done
 
   -- ---- no other assumption fails

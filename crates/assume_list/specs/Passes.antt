@@ -1,5 +1,5 @@
 -- What is known of a run once it was looked at up to a position.
-use Rattle.std.specs.Prelude.{◌≡◌, ℕ, ◌+◌, ◌<◌, ◌≤◌, min, suc, Bool, false, true, List, Option, Some, None, ◌⊎◌}
+use Rattle.std.specs.Prelude.{◌≡◌, ℕ, ◌+◌, ◌<◌, ◌≤◌, min, suc, Bool, false, true, List, [], Option, Some, None, ◌⊎◌}
 use Rattle.cells.specs.Run.{State, is_over}
 use Rattle.dist_image.specs.Image.{Premise, Span, Distilled}
 use Rattle.fitting.specs.Fails.{state_at}
@@ -76,6 +76,10 @@ module _ (start : State) (image : Distilled) where
   HasPassed budget bound p s ws (Late i) = IsLate bound i × IsClean (suc i)
   HasPassed budget bound p s ws (Failed k) = IsFailed budget bound p s ws k
   HasPassed budget bound p s ws Through = IsThrough budget bound p s ws
+
+  -- at each of the positions from `from` to before `to` that are past the bound, an anchor waits
+  abbrev pub IsAwake : ℕ → ℕ → ℕ → Type 0
+  IsAwake bound from to = (k : ℕ) → from ≤ k → bound ≤ k → k < to → waiting start image bound k ≡ [] → ⊥
 
   -- whether Span fails at a position of the run below the bound, and then the first one
   abbrev pub IsAwaited : ℕ → Option ℕ → Type 0

@@ -1,18 +1,18 @@
--- Numbers that are looked up at once, in a memory that has 1 at each of them.
-use Rattle.std.specs.Prelude.{ℕ, ◌≡◌, cond, nat_eq, List, [], ◌∷◌, map}
-use Rattle.dist_image.specs.declared.image.Note.{Note}
-use Rattle.dist_image.specs.declared.image.Anchor.{Anchor}
+-- What is kept of what an image says of addresses.
+use Rattle.std.specs.Prelude.{ℕ, ◌≡◌, ◌≤◌, not, nat_eq, Some, length, All}
 use Rattle.dist_image.specs.Image.{Distilled}
+use Rattle.image_world.specs.World.{count_of}
+use Rattle.fitting.specs.Fits.{is_analysed}
+use Rattle.assume_list.specs.declared.pcs.Said.{Said}
 use Rattle.assume_list.specs.declared.pcs.Pcs.{Pcs}
+use Rattle.assume_list.specs.Marks.{dead_in}
 
-abbrev pub with_places : List ℕ → (ℕ → ℕ) → ℕ → ℕ
-with_places [] m = m
-with_places (p ∷ ps) m = with_places ps (λ b. cond (nat_eq p b) 1 (m b))
+pub record Tells (image : Distilled) (s : Said) : Type 0 where
+  pub noted : s.noted ≡ is_analysed image s.pc
+  pub count : s.count ≡ count_of image s.pc
+  pub some : (n : ℕ) → s.count ≡ Some n → 1 ≤ n
+  pub dead : s.dead ≡ not (nat_eq (dead_in image.assumptions s.pc) 0)
 
-abbrev pub places_in : List ℕ → ℕ → ℕ
-places_in ps = with_places ps (λ _. 0)
-
--- the notes and the anchors of an image
-abbrev pub AreKnown : {M : Type 0} → (M → ℕ → ℕ) → Pcs M → Distilled → Type 0
-AreKnown at pcs image =
-    (at pcs.noted ≡ places_in (map (λ (n : Note). n.pc) image.notes)) × (at pcs.anchored ≡ places_in (map (λ (a : Anchor). a.pc) image.anchors))
+-- each answer that is kept is so, and there is one for each place
+abbrev pub AreKnown : Pcs → Distilled → Type 0
+AreKnown pcs image = All (Tells image) pcs.said.items × (length pcs.said.items ≡ 4_096)

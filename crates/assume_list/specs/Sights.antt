@@ -1,5 +1,6 @@
 -- What is seen of a position, and the marks after its step.
 use Rattle.std.specs.Prelude.{ℕ, ◌+◌, Bool, true, false, List, if◌then◌else◌}
+use Rattle.rv_run.specs.Effect.{is_store}
 use Rattle.rv_word.specs.declared.inst.Inst.{Inst}
 use Rattle.rv_word.specs.declared.inst.Inst.TheVariants.{Ecall}
 use Rattle.rv_word.specs.Meaning.{meaning}
@@ -8,7 +9,6 @@ use Rattle.rv_run.specs.Machine.{word_at}
 use Rattle.rv_run.specs.Calls.{step}
 use Rattle.dist_image.specs.Image.{Premise, Code, Within, Distilled}
 use Rattle.fitting.specs.Claims.{among}
-use Rattle.fitting.specs.Fails.{is_store}
 use Rattle.profile_laws.specs.Tally.{bytes_in, stored}
 use Rattle.assume_laws.specs.Looks.{Look, look}
 use Rattle.assume_list.specs.declared.sight.Sight.{Sight}

@@ -1,6 +1,6 @@
 //! The verdict on a run.
 
-ghost use Rattle.std.specs.Prelude.{◌≡◌, ◌-◌, ◌≤◌, ◌^◌, map, length, IfOk};
+ghost use Rattle.std.specs.Prelude.{◌≡◌, ◌+◌, ◌-◌, ◌≤◌, ◌^◌, map, length, IfOk};
 ghost use Rattle.std.specs.List.{list_any};
 ghost use Rattle.elf_reader.specs.Executable.{IsProgram};
 ghost use Rattle.seq_machine.specs.States.{state_of};
@@ -8,6 +8,7 @@ ghost use Rattle.seq_machine.specs.Parts.{start_of};
 ghost use Rattle.dist_image.specs.Image.{premise, IsImage};
 ghost use Rattle.memory_access.specs.Shadows.{mark_at};
 ghost use Rattle.assume_laws.specs.Looks.{first_from};
+ghost use Rattle.assume_list.specs.Marks.{dead_in};
 ghost use Rattle.assume_list.specs.Sights.{is_code, is_within};
 ghost use Rattle.assume_list.specs.Watched.{IsWatched};
 ghost use Rattle.assume_list.specs.Passes.{is_span, bound_of, or_late};
@@ -77,15 +78,16 @@ fn judge<M: Memory>(
     requires position { watch.old.machine.position ≡ 0 }
     requires code { watch.old.listed.code ≡ list_any is_code image.now.assumptions }
     requires within { watch.old.listed.within ≡ list_any is_within image.now.assumptions }
-    requires watched { IsWatched (state_of M.at watch.old.machine) image.now watch.old.machine.position (state_of M.at watch.old.machine) (M.at watch.old.program) (M.at watch.old.dead) (mark_at M.at watch.old.marks) watch.old.analysed }
-    ensures { IfOk result (IsVerdict (state_of M.at watch.old.machine) image.now budget) }
+    requires watched { IsWatched (state_of M.at watch.old.machine) image.now watch.old.machine.position (state_of M.at watch.old.machine) (M.at watch.old.program) (dead_in image.now.assumptions) (mark_at M.at watch.old.marks) watch.old.analysed }
+    ensures verdict { IfOk result (IsVerdict (state_of M.at watch.old.machine) image.now budget) }
+    ensures steps { watch.new.machine.position ≤ budget + image.now.limit }
 {
     let span = span_of(image);
     let bound = bound_of(span, budget);
     let span = span.unwrap_or(0);
-    let pcs = Pcs::new(alloc, image)?;
+    let mut pcs = Pcs::new(alloc, image)?;
     let mut waits = Waits::new(alloc, image.limit);
-    let passed = pass(alloc, watch, &mut waits, image, &pcs, budget, bound)?;
+    let passed = pass(alloc, watch, &mut waits, image, &mut pcs, budget, bound)?;
     let reached = watch.machine.position;
     match passed {
         Passed::Late(position) => Ok(Verdict::Broken {
@@ -95,12 +97,19 @@ fn judge<M: Memory>(
         Passed::Failed(which) => {
             let position = reached - 1;
             let machine = &mut watch.machine;
-            let late = wait(alloc, machine, &mut waits, image, &pcs, bound.min(position))?;
+            let late = wait(
+                alloc,
+                machine,
+                &mut waits,
+                image,
+                &mut pcs,
+                bound.min(position),
+            )?;
             Ok(or_late(late, span, Verdict::Broken { position, which }))
         }
         Passed::Through => {
             let machine = &mut watch.machine;
-            let late = wait(alloc, machine, &mut waits, image, &pcs, bound)?;
+            let late = wait(alloc, machine, &mut waits, image, &mut pcs, bound)?;
             Ok(or_late(late, span, Verdict::Met(reached)))
         }
     }

@@ -1,6 +1,6 @@
 //! The pass over the positions of a run, and the wait for the anchors that stand before them.
 
-ghost use Rattle.std.specs.Prelude.{◌≡◌, ◌+◌, ◌-◌, ◌<◌, ◌≤◌, ◌^◌, [], ◌&&◌, not, nat_lt, OnOk, IfOk, IsNone};
+ghost use Rattle.std.specs.Prelude.{◌≡◌, ◌+◌, ◌-◌, ◌<◌, ◌≤◌, ◌^◌, max, [], length, ◌&&◌, ◌||◌, not, nat_lt, OnOk, IfOk, IsNone};
 ghost use Rattle.std.specs.List.{list_any};
 ghost use Rattle.cells.specs.Run.{State, is_end};
 ghost use Rattle.rv_run.specs.Machine.{machine as plain, word_at};
@@ -13,9 +13,10 @@ ghost use Rattle.image_world.specs.World.{count_of};
 ghost use Rattle.fitting.specs.Fits.{is_anchor_pc};
 ghost use Rattle.memory_access.specs.Shadows.{mark_at};
 ghost use Rattle.assume_list.specs.Watched.{IsWatched};
+ghost use Rattle.assume_list.specs.Marks.{dead_in};
 ghost use Rattle.assume_list.specs.Places.{AreKnown};
 ghost use Rattle.assume_list.specs.Shown.{IsEarly, shown};
-ghost use Rattle.assume_list.specs.Passes.{HasTurned, bound_after, HasPassed, IsReached, IsAwaited};
+ghost use Rattle.assume_list.specs.Passes.{HasTurned, bound_after, HasPassed, IsReached, IsAwaited, IsAwake};
 
 use crate::instruction::is_call;
 use crate::pcs::Pcs;
@@ -65,20 +66,21 @@ fn bound_after(first: Option<u32>, bound: u64, position: u64) -> u64
 }
 
 // Lets the anchors wait on by a step. Answers the position of one that has waited for the whole limit as the step begins.
-fn take_turn<M: Memory>(
+fn take_turn(
     waits: &mut Waits,
     image: &Image,
-    pcs: &Pcs<M>,
+    pcs: &mut Pcs,
     bound: u64,
     turn: Turn,
 ) -> Result<Option<u64>, AllocError>
     requires image { IsImage image.now }
-    requires known { AreKnown M.at pcs.now image.now }
+    requires known { AreKnown pcs.old image.now }
     requires near { turn.position < 2 ^ 63 }
     requires arrivals { waits.old.arrivals ≤ turn.position }
     requires early { IsEarly waits.old.due waits.old.limit (shown waits.old) }
     requires limit { waits.old.limit ≡ image.now.limit }
     ensures turned { IfOk result (HasTurned image.now.limit bound turn.position (count_of image.now turn.pc) turn.stops (is_anchor_pc image.now turn.next) (shown waits.old) (shown waits.new)) }
+    ensures known { AreKnown pcs.new image.now }
     ensures arrivals { OnOk result (waits.new.arrivals ≤ turn.position + 1) }
     ensures early { OnOk result (IsEarly waits.new.due waits.new.limit (shown waits.new)) }
     ensures limit { waits.new.limit ≡ waits.old.limit }
@@ -98,24 +100,25 @@ pub(crate) fn pass<M: Memory>(
     watch: &mut Watch<M>,
     waits: &mut Waits,
     image: &Image,
-    pcs: &Pcs<M>,
+    pcs: &mut Pcs,
     budget: u64,
     bound: u64,
 ) -> Result<Passed, AllocError>
     requires image { IsImage image.now }
-    requires known { AreKnown M.at pcs.now image.now }
+    requires known { AreKnown pcs.old image.now }
     requires few { budget ≤ 10 ^ 12 }
     requires bound { bound ≤ budget }
     requires position { watch.old.machine.position ≡ 0 }
     requires code { watch.old.listed.code ≡ list_any is_code image.now.assumptions }
     requires within { watch.old.listed.within ≡ list_any is_within image.now.assumptions }
-    requires watched { IsWatched (state_of M.at watch.old.machine) image.now watch.old.machine.position (state_of M.at watch.old.machine) (M.at watch.old.program) (M.at watch.old.dead) (mark_at M.at watch.old.marks) watch.old.analysed }
+    requires watched { IsWatched (state_of M.at watch.old.machine) image.now watch.old.machine.position (state_of M.at watch.old.machine) (M.at watch.old.program) (dead_in image.now.assumptions) (mark_at M.at watch.old.marks) watch.old.analysed }
     requires none { shown waits.old ≡ [] }
     requires arrivals { waits.old.arrivals ≡ 0 }
     requires early { IsEarly waits.old.due waits.old.limit (shown waits.old) }
     requires limit { waits.old.limit ≡ image.now.limit }
     ensures passed { IfOk result (HasPassed (state_of M.at watch.old.machine) image.now budget bound watch.new.machine.position (state_of M.at watch.new.machine) (shown waits.new)) }
-    ensures position { OnOk result (watch.new.machine.position ≤ budget) }
+    ensures position { watch.new.machine.position ≤ budget }
+    ensures known { AreKnown pcs.new image.now }
     ensures arrivals { OnOk result (waits.new.arrivals ≤ watch.new.machine.position) }
     ensures early { OnOk result (IsEarly waits.new.due waits.new.limit (shown waits.new)) }
     ensures limit { waits.new.limit ≡ waits.old.limit }
@@ -159,6 +162,7 @@ fn step_on<M: Memory>(alloc: Global, machine: &mut Machine<M>) -> Result<bool, A
     requires room { machine.old.position < 2 ^ 64 - 1 }
     ensures state { OnOk result (state_of M.at machine.new ≡ next_state (state_of M.at machine.old)) }
     ensures position { OnOk result (machine.new.position ≡ machine.old.position + 1) }
+    ensures near { machine.new.position ≤ machine.old.position + 1 }
     ensures stops { IfOk result (λ stops. stops ≡ plain.stops (arch_at M.at machine.old.arch)) }
 {
     let calls = is_at_call(machine);
@@ -166,28 +170,39 @@ fn step_on<M: Memory>(alloc: Global, machine: &mut Machine<M>) -> Result<bool, A
     Ok(stops(calls, machine.end))
 }
 
+// Whether Span may still turn out to fail below the bound: the run goes on, and an anchor waits or may still come.
+fn is_awaited<M: Memory>(machine: &Machine<M>, waits: &Waits, bound: u64, last: u64) -> bool
+    ensures { result ≡ (not (is_end machine.now.end) && (nat_lt machine.now.position last && (nat_lt machine.now.position bound || nat_lt 0 (length (shown waits.now))))) }
+{
+    machine.end.is_none()
+        && machine.position < last
+        && (machine.position < bound || waits.is_waiting())
+}
+
 /// Goes on with the run until it is told whether Span fails below the bound, and answers the first position there.
+///
+/// It goes no further than a task limit past the bound, and past the bound only while an anchor waits.
 pub(crate) fn wait<M: Memory>(
     alloc: Global,
     machine: &mut Machine<M>,
     waits: &mut Waits,
     image: &Image,
-    pcs: &Pcs<M>,
+    pcs: &mut Pcs,
     bound: u64,
 ) -> Result<Option<u64>, AllocError>
     requires image { IsImage image.now }
-    requires known { AreKnown M.at pcs.now image.now }
+    requires known { AreKnown pcs.old image.now }
     requires few { bound ≤ 10 ^ 12 }
     requires arrivals { waits.old.arrivals ≤ machine.old.position }
     requires early { IsEarly waits.old.due waits.old.limit (shown waits.old) }
     requires limit { waits.old.limit ≡ image.now.limit }
-    ensures { (start : State) → IsReached start image.now bound machine.old.position (state_of M.at machine.old) (shown waits.old) → IfOk result (IsAwaited start image.now bound) }
+    ensures awaited { (start : State) → IsReached start image.now bound machine.old.position (state_of M.at machine.old) (shown waits.old) → IfOk result (IsAwaited start image.now bound) }
+    ensures near { machine.new.position ≤ max machine.old.position (bound + image.now.limit) }
+    ensures idle { (start : State) → IsReached start image.now bound machine.old.position (state_of M.at machine.old) (shown waits.old)
+        → OnOk result (IsAwake start image.now bound machine.old.position machine.new.position) }
 {
-    if bound == 0 {
-        return Ok(None);
-    }
     let last = bound + u64::from(waits.limit);
-    while goes_on(machine, last) {
+    while is_awaited(machine, waits, bound, last) {
         let position = machine.position;
         let pc = machine.arch.pc;
         let stops = step_on(alloc, machine)?;

@@ -1,12 +1,14 @@
 //! What is looked at of a position of the run, and which assumption fails there.
 
-ghost use Rattle.std.specs.Prelude.{◌≡◌, ℕ, ◌+◌, ◌*◌, ◌<◌, ◌≤◌, ◌^◌, ◌&&◌, ◌||◌, not, Bool, false, List, Some, map, length, slice_get};
+ghost use Rattle.std.specs.Prelude.{◌≡◌, ℕ, ◌+◌, ◌*◌, ◌<◌, ◌≤◌, ◌^◌, ◌&&◌, ◌||◌, not, nat_eq, Bool, false, List, Some, All, map, length, slice_get};
 ghost use Rattle.std.specs.List.{list_any};
-ghost use Rattle.dist_image.specs.Image.{Premise, Cut, Targets, premise, key_of, IsImage};
+ghost use Rattle.std.specs.List.Sorted.{IsStrictlyIncreasing};
+ghost use Rattle.dist_image.specs.Image.{Premise, Cut, Targets, premise, key_of, IsPremise, IsImage};
 ghost use Rattle.fitting.specs.Claims.{among};
 ghost use Rattle.fitting.specs.Fits.{is_analysed};
 ghost use Rattle.image_world.specs.World.{count_of};
 ghost use Rattle.assume_laws.specs.Looks.{fails_by, first_from};
+ghost use Rattle.assume_list.specs.Marks.{dead_in};
 ghost use Rattle.assume_list.specs.Sights.{seen, is_code, is_within};
 
 use dist_image::{Assumption, Image, anchor_at, slot_of};
@@ -40,16 +42,12 @@ pub(crate) struct Sight {
     pub stays: bool,
 }
 
-/// Whether a number is in a list.
-pub(crate) fn is_among(ns: &[u32], n: u32) -> bool
+// Whether a number is in a list whose numbers rise.
+fn is_among(ns: &[u32], n: u32) -> bool
+    requires { IsStrictlyIncreasing ns.now }
     ensures { result ≡ among ns.now n }
 {
-    for m in ns {
-        if *m == n {
-            return true;
-        }
-    }
-    false
+    ns.binary_search(&n).is_ok()
 }
 
 /// Whether an address is analysed: it has a note.
@@ -84,6 +82,7 @@ fn is_marked(marks: &[u32], at: u32) -> bool
 
 // Whether an assumption other than Span fails.
 fn fails(sight: &Sight, marks: &[u32], x: &Assumption) -> bool
+    requires { IsPremise (premise x.now) }
     ensures { result ≡ fails_by (seen sight.now marks.now) (premise x.now) }
 {
     match x {
@@ -103,7 +102,8 @@ fn fails(sight: &Sight, marks: &[u32], x: &Assumption) -> bool
 // The number of the first of a list that fails.
 #[inline(never)]
 fn first_of(sight: &Sight, marks: &[u32], xs: &[Assumption]) -> Option<u32>
-    requires { length xs.now ≤ 1_048_576 }
+    requires few { length xs.now ≤ 1_048_576 }
+    requires each { All IsPremise (map premise xs.now) }
     ensures { result ≡ first_from (fails_by (seen sight.now marks.now)) 0 (map premise xs.now) }
 {
     for k in 0..xs.len() {
@@ -126,6 +126,16 @@ fn key_of(x: &Assumption) -> u64
         Assumption::Within => 4 * KIND,
         Assumption::Span => 5 * KIND,
     }
+}
+
+/// Whether a store at an address is claimed dead.
+pub(crate) fn claims_dead(image: &Image, pc: u32) -> bool
+    requires { IsImage image.now }
+    ensures { result ≡ not (nat_eq (dead_in image.now.assumptions pc) 0) }
+{
+    let key = 2 * KIND + u64::from(pc);
+    let xs = image.assumptions.as_slice();
+    xs.binary_search_by_key(&key, |x| key_of(x)).is_ok()
 }
 
 // Whether the assumption with a key fails, where one is listed.

@@ -1,6 +1,6 @@
 //! The anchors from which a task is on its way.
 
-ghost use Rattle.std.specs.Prelude.{◌≡◌, ℕ, ◌+◌, ◌<◌, ◌≤◌, ◌^◌, false, nat_lt, Some, [], IfOk, OnOk};
+ghost use Rattle.std.specs.Prelude.{◌≡◌, ℕ, ◌+◌, ◌<◌, ◌≤◌, ◌^◌, false, nat_lt, Some, [], length, IfOk, OnOk};
 ghost use Rattle.std.specs.List.{filter};
 ghost use Rattle.assume_laws.specs.Waits.{passed_on, joined, is_overdue};
 ghost use Rattle.assume_list.specs.Shown.{IsEarly, shown_in, shown};
@@ -69,6 +69,20 @@ fn waiting(list: &[Wait], arrivals: u64, to: &mut Vec<Wait>) -> Result<(), Alloc
     Ok(())
 }
 
+// Whether one of these still waits. The last that joined are looked at first.
+fn some_wait(list: &[Wait], arrivals: u64) -> bool
+    ensures { result ≡ nat_lt 0 (length (shown_in arrivals list.now)) }
+{
+    let mut left = list.len();
+    while left > 0 {
+        left -= 1;
+        if arrivals < list[left].last {
+            return true;
+        }
+    }
+    false
+}
+
 impl Waits {
     /// None waits yet.
     pub(crate) fn new(alloc: Global, limit: u32) -> Self
@@ -120,6 +134,14 @@ impl Waits {
         waiting(&self.list, self.arrivals, &mut self.spare)?;
         swap(&mut self.list, &mut self.spare);
         Ok(())
+    }
+
+    /// Whether an anchor waits.
+    #[inline(always)]
+    pub(crate) fn is_waiting(&self) -> bool
+        ensures { result ≡ nat_lt 0 (length (shown self.now)) }
+    {
+        some_wait(&self.list, self.arrivals)
     }
 
     // Whether one has waited for the whole limit.

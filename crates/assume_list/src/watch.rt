@@ -1,6 +1,7 @@
 //! The run, looked at position after position.
 
-ghost use Rattle.std.specs.Prelude.{◌≡◌, ℕ, ◌+◌, ◌-◌, ◌%◌, ◌<◌, ◌≤◌, ◌^◌, ◌||◌, not, nat_eq, map, IfOk, OnOk, IsNone, if◌then◌else◌};
+ghost use Rattle.std.specs.Prelude.{◌≡◌, ℕ, ◌+◌, ◌-◌, ◌%◌, ◌<◌, ◌≤◌, ◌^◌, ◌||◌, ◌&&◌, Bool, not, nat_eq, IfOk, OnOk, IsNone, if◌then◌else◌};
+ghost use Rattle.rv_run.specs.Effect.{is_store};
 ghost use Rattle.std.specs.List.{list_any};
 ghost use Rattle.cells.specs.Bytes.{number};
 ghost use Rattle.cells.specs.Run.{is_end};
@@ -9,11 +10,10 @@ ghost use Rattle.rv_run.specs.Machine.{word_at, machine};
 ghost use Rattle.rv_run.specs.Calls.{step as next_state};
 ghost use Rattle.seq_machine.specs.States.{arch_at, state_of};
 ghost use Rattle.profile_laws.specs.Tally.{places, loaded, stored, is_register_jump};
-ghost use Rattle.dist_image.specs.Image.{IsImage, premise};
+ghost use Rattle.dist_image.specs.Image.{IsImage};
 ghost use Rattle.assume_laws.specs.Looks.{side, fails_by, first_from};
 ghost use Rattle.fitting.specs.Claims.{among};
 ghost use Rattle.fitting.specs.Fits.{is_analysed};
-ghost use Rattle.fitting.specs.Fails.{is_store};
 ghost use Rattle.memory_access.specs.Spans.{span_of};
 ghost use Rattle.memory_access.specs.Shadows.{mark_at};
 ghost use Rattle.assume_list.specs.Marks.{counted, dead_in};
@@ -26,7 +26,7 @@ use crate::pcs::Pcs;
 use crate::read::read_marks;
 use crate::sight::{Listed, Sight, first_failing, is_analysed, look_up};
 use cells::End;
-use dist_image::{Assumption, Image};
+use dist_image::Image;
 use memory::Memory;
 use memory_access::{Shadow, Span, is_store, loaded, stored};
 use rv_word::decode;
@@ -82,49 +82,32 @@ pub(crate) fn stops(calls: bool, end: Option<End>) -> bool
 
 // What the bytes that a step puts are marked with: 1 more than the pc of a store that is claimed dead, and else 0.
 #[inline(always)]
-fn mark_of<M: Memory>(dead: &M, pc: u32, stores: bool) -> u32
+fn mark_of(dead: bool, pc: u32) -> u32
     requires { pc % 4 ≡ 0 }
-    ensures mark { result ≡ (if stores then counted (M.at dead.now) (pc + 1) else 0) }
+    ensures mark { (stores : Bool) (claimed : ℕ → ℕ) → dead ≡ (stores && not (nat_eq (claimed pc) 0)) → result ≡ (if stores then counted claimed (pc + 1) else 0) }
     ensures small { result < 2 ^ 32 - 1 }
 {
-    if stores && dead.get(pc) != 0 {
-        pc + 1
-    } else {
-        0
-    }
+    if dead { pc + 1 } else { 0 }
 }
 
 // Marks the bytes that are put, unless it is seen at once that they have the mark already.
 fn mark<M: Memory>(
     alloc: Global,
     marks: &mut Shadow<M>,
-    dead: &M,
+    dead: bool,
     pc: u32,
     coming: &Coming,
 ) -> Result<(), AllocError>
     requires { pc % 4 ≡ 0 }
-    ensures { OnOk result ((a : ℕ) → mark_at M.at marks.new a
-        ≡ (if among (places coming.now.puts.count coming.now.puts.from) a then (if coming.now.stores then counted (M.at dead.now) (pc + 1) else 0) else mark_at M.at marks.old a)) }
+    ensures { (claimed : ℕ → ℕ) → dead ≡ (coming.now.stores && not (nat_eq (claimed pc) 0)) → OnOk result ((a : ℕ) → mark_at M.at marks.new a
+        ≡ (if among (places coming.now.puts.count coming.now.puts.from) a then (if coming.now.stores then counted claimed (pc + 1) else 0) else mark_at M.at marks.old a)) }
 {
     let puts = coming.puts;
-    let mark = mark_of(dead, pc, coming.stores);
+    let mark = mark_of(dead, pc);
     if puts.count == 0 || marks.common(puts) == Some(mark) {
         return Ok(());
     }
     marks.put(alloc, puts, mark)
-}
-
-// A memory with 1 at the pc of each store that a list claims dead.
-fn dead_stores<M: Memory>(alloc: Global, xs: &[Assumption]) -> Result<M, AllocError>
-    ensures { IfOk result (λ m. M.at m ≡ dead_in (map premise xs.now)) }
-{
-    let mut dead = M::empty(alloc)?;
-    for k in 0..xs.len() {
-        if let Assumption::Dead { at } = &xs[k] {
-            dead.put(alloc, *at, &[1])?;
-        }
-    }
-    Ok(dead)
 }
 
 /// What is seen of a step.
@@ -142,8 +125,6 @@ pub(crate) struct Watch<M: Memory> {
     pub machine: Machine<M>,
     /// The memory at the start of the run.
     pub program: M,
-    /// A 1 at the pc of each store that is claimed dead.
-    pub dead: M,
     pub marks: Shadow<M>,
     pub read: Vec<u32>,
     /// The machine's pc is analysed.
@@ -160,14 +141,13 @@ impl<M: Memory> Watch<M> {
         ensures position { IfOk result (λ w. w.machine.position ≡ 0) }
         ensures code { IfOk result (λ w. w.listed.code ≡ list_any is_code image.now.assumptions) }
         ensures within { IfOk result (λ w. w.listed.within ≡ list_any is_within image.now.assumptions) }
-        ensures watched { IfOk result (λ w. IsWatched (state_of M.at w.machine) image.now w.machine.position (state_of M.at w.machine) (M.at w.program) (M.at w.dead) (mark_at M.at w.marks) w.analysed) }
+        ensures watched { IfOk result (λ w. IsWatched (state_of M.at w.machine) image.now w.machine.position (state_of M.at w.machine) (M.at w.program) (dead_in image.now.assumptions) (mark_at M.at w.marks) w.analysed) }
     {
         let program = machine.arch.mem.snapshot(alloc)?;
         let analysed = is_analysed(image, machine.arch.pc);
         Ok(Watch {
             machine,
             program,
-            dead: dead_stores(alloc, &image.assumptions)?,
             marks: Shadow::new(alloc)?,
             read: Vec::new(alloc),
             analysed,
@@ -180,10 +160,10 @@ impl<M: Memory> Watch<M> {
         &mut self,
         alloc: Global,
         image: &Image,
-        pcs: &Pcs<M>,
+        pcs: &mut Pcs,
     ) -> Result<Seen, AllocError>
         requires image { IsImage image.now }
-        requires known { AreKnown M.at pcs.now image.now }
+        requires known { AreKnown pcs.old image.now }
         requires running { IsNone self.old.machine.end }
         requires room { self.old.machine.position < 2 ^ 64 - 1 }
         requires code { self.old.listed.code ≡ list_any is_code image.now.assumptions }
@@ -191,10 +171,11 @@ impl<M: Memory> Watch<M> {
         requires analysed { self.old.analysed ≡ is_analysed image.now self.old.machine.arch.pc }
         ensures state { OnOk result (state_of M.at self.new.machine ≡ next_state (state_of M.at self.old.machine)) }
         ensures position { OnOk result (self.new.machine.position ≡ self.old.machine.position + 1) }
+        ensures near { self.new.machine.position ≤ self.old.machine.position + 1 }
+        ensures known { AreKnown pcs.new image.now }
         ensures listed { self.new.listed ≡ self.old.listed }
         ensures program { M.at self.new.program ≡ M.at self.old.program }
-        ensures dead { M.at self.new.dead ≡ M.at self.old.dead }
-        ensures marks { OnOk result ((a : ℕ) → mark_at M.at self.new.marks a ≡ marks_after (M.at self.old.dead) (state_of M.at self.old.machine) (mark_at M.at self.old.marks) a) }
+        ensures marks { OnOk result ((a : ℕ) → mark_at M.at self.new.marks a ≡ marks_after (dead_in image.now.assumptions) (state_of M.at self.old.machine) (mark_at M.at self.old.marks) a) }
         ensures analysed { OnOk result (self.new.analysed ≡ is_analysed image.now self.new.machine.arch.pc) }
         ensures stops { IfOk result (λ seen. seen.stops ≡ machine.stops (arch_at M.at self.old.machine.arch)) }
         ensures first { IfOk result (λ seen. seen.first
@@ -204,7 +185,8 @@ impl<M: Memory> Watch<M> {
         let coming = look_ahead(&mut self.machine, &mut self.program);
         read_marks(&self.marks, pc, coming.loads, &mut self.read)?;
         self.machine.one(alloc)?;
-        mark(alloc, &mut self.marks, &self.dead, pc, &coming)?;
+        let dead = coming.stores && pcs.is_dead(image, pc);
+        mark(alloc, &mut self.marks, dead, pc, &coming)?;
         let next = self.machine.arch.pc;
         let sight = Sight {
             pc,
@@ -214,7 +196,7 @@ impl<M: Memory> Watch<M> {
             changed: coming.changed,
             analysed: self.analysed,
             next,
-            stays: pcs.is_noted(next),
+            stays: pcs.is_noted(image, next),
         };
         self.analysed = sight.stays;
         Ok(Seen {

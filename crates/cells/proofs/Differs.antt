@@ -5,6 +5,7 @@ use Rattle.std.proofs.lemmas.Bool.{eqb-false, not-true}
 use Rattle.cells.specs.declared.Cell.{Cell}
 use Rattle.cells.specs.declared.Cell.TheVariants.{Pc, Reg, Byte}
 use Rattle.cells.specs.declared.Differ.{Differ}
+use Rattle.cells.specs.Cells.{IsCell}
 use Rattle.cells.specs.Differ.{is_other, differs, or_else, as_cell, first_reg, first_byte, told, differ, IsBefore, IsPlace, IsFirst, IsFirstDiffer}
 use Rattle.cells.proofs.FirstWhere.{first_where_none, first_where_some}
 
@@ -12,6 +13,11 @@ use Rattle.cells.proofs.FirstWhere.{first_where_none, first_where_some}
 other_told : (o : Option ℕ) (v : ℕ) → is_other o v ≡ true → (o ≡ Some (unwrap_or o 0)) × (unwrap_or o 0 ≡ v → ⊥)
 other_told None v e = absurd (true≢false (sym e))
 other_told (Some p) v e = (refl, eqb-false p v (not-true (nat_eq p v) e))
+
+pub cell_is_place : (x : Cell) → IsCell x → IsPlace x
+cell_is_place Pc c = tt
+cell_is_place (Reg n) c = c.1
+cell_is_place (Byte a) c = c
 
 module _ (recorded : Cell → Option ℕ) (found : Cell → ℕ) where
   abbrev of_parts : Bool → Option ℕ → Option ℕ → Option Differ

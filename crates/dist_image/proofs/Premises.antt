@@ -1,5 +1,6 @@
 -- An assumption that is read is the assumption that was written, and what was written is read again.
 use Rattle.std.proofs.Common.{◌≡◌, ℕ, zero, suc, ◌+◌, ◌*◌, ◌%◌, ◌^◌, ◌<◌, ◌≤◌, ◌==◌, true, false, cond, not, ◌&&◌, ltb, leb, List, [], ◌∷◌, ◌++◌, length, map, All, Result, Ok, Err, refl, sym, ap, subst, ◌∙◌, arith}
+use Rattle.cells.specs.Cells.{IsPc}
 use Rattle.std.specs.List.Sorted.{IsStrictlyIncreasing}
 use Rattle.std.specs.Int.{w32, to_le_bytes}
 use Rattle.std.proofs.lemmas.Bool.{ltb-false, eqb-true, eq-eqb, le-ltb}
@@ -10,7 +11,7 @@ use Rattle.dist_image.specs.declared.error.ImageErr.{ImageErr}
 use Rattle.dist_image.specs.declared.error.ImageErr.TheVariants.{Range, Order}
 use Rattle.dist_image.specs.declared.error.Table.TheVariants as table
 use Rattle.dist_image.specs.declared.entry.Head.{Head}
-use Rattle.dist_image.specs.Image.{Premise, Cut, Targets, Dead, Code, Within, Span, kind_of, place_of, targets_of, key_of, IsPc, IsPremise}
+use Rattle.dist_image.specs.Image.{Premise, Cut, Targets, Dead, Code, Within, Span, kind_of, place_of, targets_of, key_of, IsPremise}
 use Rattle.dist_image.specs.Bytes.{words, value_of, premise_words}
 use Rattle.dist_image.specs.Reading.{◌>>=◌, next_word, is_aligned, admit_target, next_target, targets_in, has_form, admit_head, next_head, premise_from, next_premise}
 use Rattle.dist_image.proofs.Words.{IsBytes, bind_ok, passed, not_false, ok_is, Takes, Takes-then, word_takes, entries_take, entries_again}

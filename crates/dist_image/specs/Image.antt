@@ -3,6 +3,7 @@ use Rattle.std.specs.Prelude.{◌≡◌, ℕ, ◌+◌, ◌*◌, ◌%◌, ◌^◌
 use Rattle.std.specs.List.{sum_by}
 use Rattle.std.specs.List.Sorted.{IsStrictlyIncreasing}
 use Rattle.std.specs.Option.{option_map}
+use Rattle.cells.specs.Cells.{IsPc}
 use Rattle.dist_image.specs.declared.image.Slot.{Slot}
 use Rattle.dist_image.specs.declared.image.Slot.TheVariants as slot
 use Rattle.dist_image.specs.declared.image.Anchor.{Anchor}
@@ -35,10 +36,6 @@ pub record Distilled : Type 0 where
   pub anchors : List Anchor
   pub notes : List Note
   pub assumptions : List Premise
-
--- a program counter: an address of 32 bits, and a multiple of 4
-abbrev pub IsPc : ℕ → Type 0
-IsPc a = (a % 4 ≡ 0) × (a < 2 ^ 32)
 
 -- a set of registers as a word with a bit for each, and none for register 0
 abbrev pub IsMask : ℕ → Type 0

@@ -1,5 +1,6 @@
 -- The image of the analysed instructions fits the program.
 use Rattle.std.proofs.Common.{◌≡◌, ℕ, ◌+◌, Bool, true, false, cond, List, [], ◌∷◌, map, length, refl, sym, ap, ◌∙◌, subst, inl, inr, ◌⊎◌, ⊎_elim, ◌&&◌, Some}
+use Rattle.cells.specs.Cells.{IsPc}
 use Rattle.std.specs.Prelude.{nat_eq}
 use Rattle.std.specs.List.{slice_get, IsDistinct}
 use Rattle.std.proofs.lemmas.Bool.{cases_Bool}
@@ -9,7 +10,7 @@ use Rattle.rv_word.specs.declared.inst.Inst.{Inst}
 use Rattle.dist_image.specs.declared.image.Slot.{Slot}
 use Rattle.dist_image.specs.declared.image.Slot.TheVariants.{Exec, Go, Fork}
 use Rattle.dist_image.specs.declared.image.Note.{Note}
-use Rattle.dist_image.specs.Image.{IsPc, Distilled, slot_of}
+use Rattle.dist_image.specs.Image.{Distilled, slot_of}
 use Rattle.profile_data.specs.Profile.{Tally, pc_of}
 use Rattle.fitting.specs.Claims.{Claims, among, claims, leads, goes_on_at}
 use Rattle.fitting.specs.Fits.{IsWithin, IsWithinBut, IsKept, IsPlaced, MayPass, IsAimed, LiveFits, NeedFits, Fits, body_place, is_anchor_pc}

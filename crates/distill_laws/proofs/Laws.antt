@@ -1,7 +1,8 @@
 -- The laws, of a profile that is valid.
 use Rattle.std.proofs.Common.{◌≡◌, ℕ, true, subst, Some, sym, ap, ◌∙◌, ◌↔◌}
+use Rattle.cells.specs.Cells.{IsPc}
 use Rattle.std.proofs.lemmas.List.Elements.{recursion_from_All}
-use Rattle.dist_image.specs.Image.{Premise, Cut, Targets, Dead, Distilled, IsPc}
+use Rattle.dist_image.specs.Image.{Premise, Cut, Targets, Dead, Distilled}
 use Rattle.profile_data.specs.Profile.{IsTally, Profiled, IsProfile}
 use Rattle.fitting.specs.Claims.{among, claims}
 use Rattle.fitting.specs.Fits.{Fits, IsListed, is_analysed}

@@ -1,9 +1,10 @@
 -- The image of the analysed instructions, and what its notes, anchors and list say.
 use Rattle.std.proofs.Common.{◌≡◌, ℕ, ◌+◌, true, List, [], ◌∷◌, ◌++◌, map, length, refl, sym, ap, ◌∙◌, subst, arith, Some, ◌&&◌}
+use Rattle.cells.specs.Cells.{IsPc}
 use Rattle.std.specs.List.{slice_get}
 use Rattle.std.specs.Option.{option_map}
 use Rattle.dist_image.specs.declared.image.Note.{Note}
-use Rattle.dist_image.specs.Image.{Dead, Code, Within, Span, Distilled, IsPc, slot_of}
+use Rattle.dist_image.specs.Image.{Dead, Code, Within, Span, Distilled, slot_of}
 use Rattle.profile_data.specs.Profile.{Tally, Profiled}
 use Rattle.fitting.specs.Claims.{among, claims}
 use Rattle.fitting.specs.Fits.{IsListed, is_analysed, is_anchor_pc}

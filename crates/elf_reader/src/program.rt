@@ -1,7 +1,7 @@
 //! Programs, and the memory that they begin with.
 
 ghost use Rattle.std.specs.Prelude.{◌≡◌, ◌≤◌};
-ghost use Rattle.cells.specs.Bytes.{number};
+ghost use Rattle.cells.specs.Bytes.{word_of};
 ghost use Rattle.elf_reader.specs.Executable.{end_of, byte_in, memory_of};
 
 use std::marker::Model;
@@ -71,7 +71,7 @@ impl Part {
 ///
 /// The lowest byte comes first, and after the last address comes 0. Takes no memory.
 pub fn word_at(p: &Program, pc: u32) -> u32
-    ensures { result ≡ number 4 pc (memory_of p.now.parts) }
+    ensures { result ≡ word_of (memory_of p.now.parts) pc }
 {
     let parts = p.parts.as_slice();
     u32::from_le_bytes([

@@ -1,25 +1,20 @@
 -- When an assumption fails at a position of a run, and when the first n steps of a run meet the list.
 use Rattle.std.specs.Prelude.{◌≡◌, ◌≢◌, ℕ, ◌+◌, ◌<◌, ◌≤◌, suc, Bool, true, false, slice_get, Some, ◌⊎◌}
 use Rattle.rv_word.specs.declared.inst.Inst.{Inst}
-use Rattle.rv_word.specs.declared.inst.Inst.TheVariants.{Branch, Jalr, Store}
+use Rattle.rv_word.specs.declared.inst.Inst.TheVariants.{Branch, Jalr}
 use Rattle.rv_word.specs.Meaning.{meaning}
 use Rattle.cells.specs.declared.Cell.TheVariants.{Byte}
 use Rattle.cells.specs.Cells.{Arch, value}
-use Rattle.cells.specs.Bytes.{number}
-use Rattle.cells.specs.Run.{State, is_over, iterate}
-use Rattle.squash_laws.specs.Fits.{count_after}
+use Rattle.cells.specs.Bytes.{word_of}
+use Rattle.cells.specs.Run.{State, is_over, iterate, EndsWithin, count_after}
 use Rattle.rv_run.specs.Values.{register_value}
-use Rattle.rv_run.specs.Effect.{holds}
+use Rattle.rv_run.specs.Effect.{holds, is_store}
 use Rattle.rv_run.specs.Machine.{machine, word_at}
 use Rattle.rv_run.specs.Calls.{step, writes}
 use Rattle.dist_image.specs.Image.{Premise, Cut, Targets, Dead, Code, Within, Span, Distilled}
 use Rattle.image_world.specs.World.{count_of}
 use Rattle.fitting.specs.Claims.{among}
 use Rattle.fitting.specs.Fits.{is_analysed, is_anchor_pc}
-
-abbrev pub is_store : Inst → Bool
-is_store (Store kind rs1 rs2 off) = true
-is_store _ = false
 
 abbrev pub IsRegisterJump : Inst → Type 0
 IsRegisterJump (Jalr rd rs1 off) = Unit {0}
@@ -30,9 +25,9 @@ abbrev pub Branches : Bool → Inst → Arch → Type 0
 Branches taken (Branch test rs1 rs2 off) s = holds test (register_value rs1 (value s)) (register_value rs2 (value s)) ≡ taken
 Branches taken _ s = ⊥
 
--- the program's word at a pc is the one that memory holds at the start: of a program that is loaded, its `program_word`
+-- the program's word at a pc is the one that memory holds at the start
 abbrev pub program : State → ℕ → ℕ
-program start pc = number 4 pc start.arch.mem
+program start pc = word_of start.arch.mem pc
 
 -- the run from a start: the state at position k. It is a position of the run where the run has not ended
 module _ (start : State) where
@@ -103,4 +98,4 @@ module _ (start : State) (image : Distilled) where
 
   -- what is met reaches a task limit past position p, or to the end of the run
   abbrev pub Reaches : ℕ → ℕ → Type 0
-  Reaches n p = (p + image.limit ≤ n) ⊎ ((e : ℕ) × (e ≤ n) × (is_over (state_at start e) ≡ true))
+  Reaches n p = (p + image.limit ≤ n) ⊎ EndsWithin (state_at start) n

@@ -7,14 +7,14 @@ use Rattle.cells.specs.declared.Cell.TheVariants.{Byte}
 use Rattle.cells.specs.Cells.{value}
 use Rattle.cells.specs.Run.{State, is_over, printed}
 use Rattle.squash_laws.specs.Fits as seen
-use Rattle.rv_run.specs.Effect.{effect_at}
+use Rattle.rv_run.specs.Effect.{effect_at, is_store}
 use Rattle.rv_run.specs.Machine.{machine, word_at, is_next, pc_after, moved}
 use Rattle.rv_run.specs.Calls.{call, writes}
 use Rattle.dist_image.specs.Image.{Premise, Cut, Targets, Dead, Code, Within, Span, Distilled}
 use Rattle.image_world.specs.World.{count_of}
 use Rattle.fitting.specs.Claims.{among, claims, leads}
 use Rattle.fitting.specs.Fits.{Fits, IsListed, IsAimed, is_analysed}
-use Rattle.fitting.specs.Fails.{state_at, arch_at, pc_at, fetched_at, program, Fails, Meets, IsLatestWriter, IsArrival, IsStop, IsSpanned, IsRegisterJump, arrivals_after, is_store}
+use Rattle.fitting.specs.Fails.{state_at, arch_at, pc_at, fetched_at, program, Fails, Meets, IsLatestWriter, IsArrival, IsStop, IsSpanned, IsRegisterJump, arrivals_after}
 use Rattle.fitting_laws.specs.Setting.{setting}
 use Rattle.fitting_laws.proofs.Found.{at_note, cut_listed, targets_listed, dead_listed}
 use Rattle.fitting_laws.proofs.Goes.{goes_on}

@@ -9,11 +9,10 @@ use Rattle.rv_word.proofs.Registers.{in_mask-none}
 use Rattle.cells.specs.declared.Cell.TheVariants.{Reg, Byte}
 use Rattle.cells.specs.Seen.{puts_of}
 use Rattle.rv_run.specs.Values.{register_puts}
-use Rattle.rv_run.specs.Effect.{effect, jumped, branched, sum32, holds, after}
+use Rattle.rv_run.specs.Effect.{effect, jumped, branched, sum32, holds, after, is_store}
 use Rattle.rv_run.specs.Machine.{is_next}
 use Rattle.fitting.specs.Claims.{Claims, among, sides, leads, side_left, goes_on_at}
 use Rattle.fitting.specs.Fits.{MayPass, AreApart}
-use Rattle.fitting.specs.Fails.{is_store}
 
 one_among : (x y : ℕ) → among (x ∷ []) y ≡ true → y ≡ x
 one_among x y e = ⊎_elim (λ (h : nat_eq x y ≡ true). sym (eqb-true x y h)) (λ (h : false ≡ true). absurd (true≢false (sym h))) (or_cases (nat_eq x y) false e)

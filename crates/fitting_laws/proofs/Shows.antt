@@ -14,7 +14,7 @@ use Rattle.speculation.specs.World.{World}
 use Rattle.squash_laws.specs.Image.{Image, Words, body, Go as GoTo, Fork as ForkAt}
 use Rattle.squash_laws.specs.Fits as seen
 use Rattle.rv_run.specs.Values.{bytes_of}
-use Rattle.rv_run.specs.Effect.{effect, first, second, load_count, load_from}
+use Rattle.rv_run.specs.Effect.{effect, first, second, load_count, load_from, is_store}
 use Rattle.rv_run.specs.Machine.{is_next}
 use Rattle.dist_image.specs.declared.image.Anchor.{Anchor}
 use Rattle.dist_image.specs.declared.image.Note.{Note}
@@ -22,7 +22,7 @@ use Rattle.dist_image.specs.Image.{Distilled, note_at, slot_of}
 use Rattle.image_world.specs.World.{world, anchor_of}
 use Rattle.fitting.specs.Claims.{claims}
 use Rattle.fitting.specs.Fits.{Fits, IsKept, IsPlaced, MayPass, is_analysed, is_anchor_pc, live_at, need_at, body_place, instruction, goes_on}
-use Rattle.fitting.specs.Fails.{is_store, program}
+use Rattle.fitting.specs.Fails.{program}
 use Rattle.fitting_laws.specs.Setting.{words, view, shown, pc_of}
 use Rattle.fitting_laws.proofs.Found.{mapped_some, at_note, anchor_stands, anchor_is, exec_or_not}
 use Rattle.fitting_laws.proofs.Passed.{only, leads_on, unwritten, goes, dead_only}

@@ -7,7 +7,7 @@ use Rattle.squash_laws.specs.Image.{Slot, Image, Words, Exec as DoWord, Go as Go
 use Rattle.squash_laws.specs.Fits.{Setting}
 use Rattle.rv_word.specs.Meaning.{meaning}
 use Rattle.rv_word.specs.Masks.{reads, writes as writes_mask, in_mask}
-use Rattle.rv_run.specs.Effect.{effect_at}
+use Rattle.rv_run.specs.Effect.{effect_at, is_store}
 use Rattle.rv_run.specs.Machine.{exec, word_at}
 use Rattle.rv_run.specs.Calls.{writes}
 use Rattle.dist_image.specs.declared.image.Slot.TheVariants.{Exec, Go, Fork}
@@ -17,7 +17,7 @@ use Rattle.dist_image.specs.Image.{Distilled, slot_of}
 use Rattle.image_world.specs.World.{world, why_of}
 use Rattle.fitting.specs.Claims.{among, claims, leads}
 use Rattle.fitting.specs.Fits.{is_analysed, live_at, need_at}
-use Rattle.fitting.specs.Fails.{is_store, program}
+use Rattle.fitting.specs.Fails.{program}
 
 -- the words of RV32IM, where the program has this word at each pc
 abbrev pub words : (ℕ → ℕ) → Words

@@ -1,11 +1,12 @@
 -- The list of assumptions is in its ranges, and in its order.
 use Rattle.std.proofs.Common.{◌≡◌, ℕ, ◌+◌, ◌*◌, ◌<◌, ◌^◌, true, List, [], ◌∷◌, ◌++◌, map, filter_map, All, refl, sym, ap, ◌∙◌, subst, arith, Option, Some}
+use Rattle.cells.specs.Cells.{IsPc}
 use Rattle.std.specs.List.{AllByRecursion}
 use Rattle.std.specs.List.Sorted.{IsStrictlyIncreasing}
 use Rattle.std.proofs.lemmas.List.{map-append}
 use Rattle.std.proofs.lemmas.List.Elements.{All-append, All-nil, All-cons}
 use Rattle.rv_word.specs.Meaning.{meaning}
-use Rattle.dist_image.specs.Image.{Premise, Code, Within, Span, IsPc, IsPremise, key_of}
+use Rattle.dist_image.specs.Image.{Premise, Code, Within, Span, IsPremise, key_of}
 use Rattle.dist_image.proofs.Rising.{Rises, increasing_from_rises}
 use Rattle.profile_data.specs.Profile.{Tally, IsTally}
 use Rattle.fitting.specs.Claims.{among}

@@ -1,5 +1,6 @@
 -- The image of the analysed instructions is a valid one.
 use Rattle.std.proofs.Common.{◌≡◌, ℕ, ◌+◌, ◌<◌, ◌≤◌, Bool, true, false, cond, List, [], ◌∷◌, ◌++◌, map, filter, length, All, flat_map, refl, sym, ap, ◌∙◌, subst, arith, Some}
+use Rattle.cells.specs.Cells.{IsPc}
 use Rattle.std.specs.Prelude.{nat_eq}
 use Rattle.std.specs.List.{AllByRecursion, IsDistinct, slice_get}
 use Rattle.std.specs.List.Sorted.{IsStrictlyIncreasing}
@@ -8,7 +9,7 @@ use Rattle.std.proofs.lemmas.List.Kept.{IsStrictlyIncreasing-filter}
 use Rattle.rv_word.specs.Meaning.{meaning}
 use Rattle.dist_image.specs.declared.image.Anchor.{Anchor}
 use Rattle.dist_image.specs.declared.image.Note.{Note}
-use Rattle.dist_image.specs.Image.{IsPc, IsMask, IsAnchor, IsNote, IsPremise, IsImage, Distilled, key_of, target_count}
+use Rattle.dist_image.specs.Image.{IsMask, IsAnchor, IsNote, IsPremise, IsImage, Distilled, key_of, target_count}
 use Rattle.profile_data.specs.Profile.{Tally, IsTally, pc_of}
 use Rattle.profile_data.specs.Profile as profile
 use Rattle.fitting.specs.Claims.{among}

@@ -1,10 +1,10 @@
 -- Where the master goes on that passes an instruction over is a pc.
 use Rattle.std.proofs.Common.{◌≡◌, ℕ, ℤ, ◌<◌, ◌%◌, ◌^◌, Bool, true, false, not, refl, arith, Option, Some, None, eqb}
+use Rattle.cells.specs.Cells.{IsPc}
 use Rattle.std.proofs.lemmas.Bool.{eqb-true, and_parts}
 use Rattle.rv_word.specs.declared.inst.Inst.{Inst}
 use Rattle.rv_word.specs.declared.inst.Inst.TheVariants.{Lui, Auipc, Jal, Jalr, Branch, Load, Store, OpImm, Op, Fence, Ecall, Ebreak, Illegal}
 use Rattle.rv_run.specs.Effect.{after, sum32}
-use Rattle.dist_image.specs.Image.{IsPc}
 use Rattle.fitting.specs.Claims.{Claims, goes_on_at}
 use Rattle.distill_rules.specs.Cuts.{has_sides}
 

@@ -1,7 +1,7 @@
 -- That nothing is squashed with an image that fits, as far as the run meets its list.
 use Rattle.std.specs.Prelude.{◌≡◌, ℕ, List, take, slice_get, Option, Some, None}
 use Rattle.outside.specs.Files.{Files}
-use Rattle.cells.specs.Run.{State}
+use Rattle.cells.specs.Run.{State, EndsWithin}
 use Rattle.command_line.specs.Command.{RunCommand, ReplayCommand}
 use Rattle.speculation.specs.declared.Effect.{Effect}
 use Rattle.speculation.specs.declared.Event.{Event}
@@ -11,8 +11,7 @@ use Rattle.squash_laws.specs.Tracks.{IsSafe}
 use Rattle.dist_image.specs.Image.{Distilled}
 use Rattle.event_list.specs.Reading.{written_out}
 use Rattle.fitting.specs.Fits.{Fits}
-use Rattle.fitting.specs.Fails.{program, Meets, Reaches}
-use Rattle.nosquash.specs.Laws.{EndsWithin}
+use Rattle.fitting.specs.Fails.{state_at, program, Meets, Reaches}
 use Rattle.report.specs.Events.{summary_text}
 use Rattle.mssp_tool.specs.Told.{Puts, Got, Written}
 use Rattle.mssp_tool.specs.Run.{AreRunFiles, start_from, world_from}
@@ -44,7 +43,7 @@ pub record ReplayIsUnsquashed (told : Option Files) (r : ReplayCommand) (out : P
 -- beside an image: it fits the program, and the run meets its list to the end. Where no image is named nothing is asked
 abbrev pub IsMetToTheEnd : Option (List ℕ) → State → Distilled → Type 0
 IsMetToTheEnd None start image = Unit {0}
-IsMetToTheEnd (Some name) start image = Fits (program start) image × ((n : ℕ) × Meets start image n × EndsWithin start n)
+IsMetToTheEnd (Some name) start image = Fits (program start) image × ((n : ℕ) × Meets start image n × EndsWithin (state_at start) n)
 
 -- the files of a run are these, the report that was written sums up this model, and it counts no squash and no task that was given up
 pub record ReportIsUnsquashed (told left : Option Files) (r : RunCommand) (name : List ℕ) : Type 0 where

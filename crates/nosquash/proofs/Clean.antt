@@ -1,6 +1,6 @@
 -- Counts of squashes and of tasks that are given up stay where each event is safe.
 use Rattle.std.proofs.Common.{◌≡◌, ℕ, ◌<◌, ◌≤◌, zero, suc, refl, arith, inr}
-use Rattle.cells.specs.Run.{State}
+use Rattle.cells.specs.Run.{State, EndsWithin}
 use Rattle.speculation.specs.declared.Counts.{Counts}
 use Rattle.speculation.specs.declared.Effect.{Effect}
 use Rattle.speculation.specs.declared.Effect.TheVariants.{Moved, Forked, Stalled, Halted, Stepped, Done, Committed, Squashed, Ended, Started, Idle}
@@ -18,7 +18,6 @@ use Rattle.fitting_laws.specs.Laws.{TracksRun}
 use Rattle.fitting_laws.proofs.Safe.{next_safe}
 use Rattle.schedules.specs.Schedule.{after}
 use Rattle.schedules.proofs.After.{holds}
-use Rattle.nosquash.specs.Laws.{EndsWithin}
 use Rattle.nosquash.proofs.Tracked.{fresh_tracked, event_tracked}
 
 abbrev IsClean : Counts → Type 0
@@ -42,7 +41,7 @@ adds_nothing e (Ended end) c safe h = h
 adds_nothing e (Started pc) c safe h = h
 adds_nothing e Idle c safe h = h
 
-module _ (start : State) (image : Distilled) (slaves n : ℕ) (ok : IsImage image) (some : 0 < slaves) (fits : Fits (program start) image) (meets : Meets start image n) (ends : EndsWithin start n) (event : ℕ → Event) where
+module _ (start : State) (image : Distilled) (slaves n : ℕ) (ok : IsImage image) (some : 0 < slaves) (fits : Fits (program start) image) (meets : Meets start image n) (ends : EndsWithin (state_at start) n) (event : ℕ → Event) where
   few : 1 ≤ slaves
   few = omega (arith, some)
 
@@ -61,7 +60,7 @@ module _ (start : State) (image : Distilled) (slaves n : ℕ) (ok : IsImage imag
       let h = holds (world start image slaves) (known start image slaves ok some) event k in
       (event_tracked start image slaves ok few m (event k) h before.0, one m (event k) h before.0 before.1)
 
-pub clean : (start : State) (image : Distilled) (slaves n : ℕ) → IsImage image → 0 < slaves → Fits (program start) image → Meets start image n → EndsWithin start n
+pub clean : (start : State) (image : Distilled) (slaves n : ℕ) → IsImage image → 0 < slaves → Fits (program start) image → Meets start image n → EndsWithin (state_at start) n
     → (event : ℕ → Event) (k : ℕ)
     → ((after (world start image slaves) event k).counts.squashed ≡ 0) × ((after (world start image slaves) event k).counts.dropped ≡ 0)
 clean start image slaves n ok some fits meets ends event k = (both start image slaves n ok some fits meets ends event k).1

@@ -1,6 +1,6 @@
 -- What no squash means for a whole run.
-use Rattle.std.specs.Prelude.{◌≡◌, ℕ, ◌<◌, ◌≤◌, true}
-use Rattle.cells.specs.Run.{State, is_over}
+use Rattle.std.specs.Prelude.{◌≡◌, ℕ, ◌<◌}
+use Rattle.cells.specs.Run.{State, EndsWithin}
 use Rattle.speculation.specs.declared.Event.{Event}
 use Rattle.dist_image.specs.Image.{Distilled, IsImage}
 use Rattle.image_world.specs.World.{world}
@@ -10,14 +10,10 @@ use Rattle.assume_list.specs.declared.verdict.Verdict.{Verdict}
 use Rattle.assume_list.specs.declared.verdict.Verdict.TheVariants.{Met, Broken}
 use Rattle.schedules.specs.Schedule.{after}
 
--- the run ends within n steps
-abbrev pub EndsWithin : State → ℕ → Type 0
-EndsWithin start n = (e : ℕ) × (e ≤ n) × (is_over (state_at start e) ≡ true)
-
 -- with an image that fits and a run that meets its list to the end, nothing is counted as squashed or given up, whatever the events
 abbrev pub RunsLoseNothing : Type 0
 RunsLoseNothing =
-    (start : State) (image : Distilled) (slaves n : ℕ) → IsImage image → 0 < slaves → Fits (program start) image → Meets start image n → EndsWithin start n
+    (start : State) (image : Distilled) (slaves n : ℕ) → IsImage image → 0 < slaves → Fits (program start) image → Meets start image n → EndsWithin (state_at start) n
     → (event : ℕ → Event) (k : ℕ)
     → ((after (world start image slaves) event k).counts.squashed ≡ 0) × ((after (world start image slaves) event k).counts.dropped ≡ 0)
 

@@ -1,12 +1,12 @@
 -- The targets of a row that are read are those that were written, and what was written is read again.
 use Rattle.std.proofs.Common.{◌≡◌, ℕ, ◌+◌, ◌≤◌, true, false, cond, not, ltb, List, ◌++◌, length, map, All, Result, Ok, Err, refl, sym, ap, subst, ◌∙◌, arith}
+use Rattle.cells.specs.Cells.{IsPc}
 use Rattle.std.specs.List.{flat_map}
 use Rattle.std.specs.List.Sorted.{IsStrictlyIncreasing}
 use Rattle.std.proofs.lemmas.Bool.{ltb-false, eqb-true, eq-eqb, le-ltb}
 use Rattle.std.proofs.lemmas.List.Elements.{All-from_recursion, recursion_from_All}
 use Rattle.profile_data.specs.declared.error.ProfileErr.{ProfileErr}
 use Rattle.profile_data.specs.declared.error.ProfileErr.TheVariants.{Range, Order}
-use Rattle.profile_data.specs.Profile.{IsPc}
 use Rattle.profile_data.specs.Bytes.{four}
 use Rattle.profile_data.specs.Reading.{◌>>=◌, next_word, is_aligned, admit_target, next_target, targets_in}
 use Rattle.profile_data.proofs.Fields.{IsBytes, bind_ok, passed, not_false, ok_is, Takes, word_takes, word_step, entries_length, entries_take, entries_again}

@@ -2,6 +2,7 @@
 use Rattle.std.specs.Prelude.{◌≡◌, ℕ, ◌%◌, ◌^◌, ◌<◌, ◌≤◌, ◌==◌, nat_eq, Bool, List, length, map, find, Option, All}
 use Rattle.std.specs.List.{sum_by, IsDistinct}
 use Rattle.std.specs.List.Sorted.{IsStrictlyIncreasing}
+use Rattle.cells.specs.Cells.{IsPc}
 
 -- what was counted at a program counter: how often its instruction was executed, and how often its branch was taken;
 -- whether what it stored was read, and whether another word than the program's was executed there; where its indirect jump went
@@ -18,10 +19,6 @@ pub record Profiled : Type 0 where
   pub steps : ℕ
   pub ended : Bool
   pub rows : List Tally
-
--- a program counter: an address of 32 bits, and a multiple of 4
-abbrev pub IsPc : ℕ → Type 0
-IsPc a = (a % 4 ≡ 0) × (a < 2 ^ 32)
 
 abbrev pub pc_of : Tally → ℕ
 pc_of t = t.pc

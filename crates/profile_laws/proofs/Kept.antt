@@ -1,11 +1,12 @@
 -- The tally's rows are those of the pcs in order, and each of them is kept by itself.
 use Rattle.std.proofs.Common.{◌≡◌, ℕ, zero, suc, ◌+◌, Bool, true, false, ◌||◌, cond, List, [], ◌∷◌, map, refl, sym, ap, ◌∙◌, arith}
+use Rattle.rv_run.specs.Effect.{is_store}
 use Rattle.std.specs.Prelude.{nat_eq}
 use Rattle.std.proofs.lemmas.Bool.{or_parts, or_from, cond-false}
 use Rattle.cells.specs.Run.{State}
 use Rattle.profile_data.specs.Profile.{Tally}
 use Rattle.fitting.specs.Claims.{among}
-use Rattle.fitting.specs.Fails.{is_store, pc_at, fetched_at}
+use Rattle.fitting.specs.Fails.{pc_at, fetched_at}
 use Rattle.profile_laws.specs.Profiles.{pcs}
 use Rattle.profile_laws.specs.Tally.{places, bytes_in, fresh, counted, visited, read_back, kept, visit_at}
 use Rattle.profile_laws.proofs.Listed.{AreApart, apart_with_new, among_with_new, at_one, visited_map, is_mark, flagged, any_mark, read_back_map}

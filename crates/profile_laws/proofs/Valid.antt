@@ -1,5 +1,6 @@
 -- A profile can hold the tally of a run, unless it is too wide.
 use Rattle.std.proofs.Common.{◌≡◌, ℕ, zero, suc, ◌+◌, ◌<◌, ◌≤◌, ◌^◌, Bool, true, false, ◌||◌, ◌&&◌, cond, List, [], ◌∷◌, ◌++◌, length, map, All, inl, inr, refl, sym, ap, ◌∙◌, subst, ⊎_elim, true≢false, arith}
+use Rattle.cells.specs.Cells.{IsPc}
 use Rattle.std.specs.Prelude.{nat_eq, nat_lt, Option, Some, None}
 use Rattle.std.specs.List.{sum_by, IsDistinct, AllByRecursion}
 use Rattle.std.proofs.lemmas.Bool.{eqb-true, eq-eqb, or_parts, or_cases, or_left, or_right, cases_eq}
@@ -7,7 +8,7 @@ use Rattle.std.proofs.lemmas.List.{length-append}
 use Rattle.std.proofs.lemmas.List.Elements.{All-nil, All-cons}
 use Rattle.std.proofs.lemmas.List.Sums.{sum_by-cons, sum_by_push}
 use Rattle.cells.specs.Run.{State}
-use Rattle.profile_data.specs.Profile.{Tally, pc_of, executed_of, target_count, IsPc, IsTally, IsProfile}
+use Rattle.profile_data.specs.Profile.{Tally, pc_of, executed_of, target_count, IsTally, IsProfile}
 use Rattle.fitting.specs.Claims.{among}
 use Rattle.fitting.specs.Fails.{pc_at, arch_at, fetched_at}
 use Rattle.profile_laws.specs.Profiles.{count_below, is_at, with_new, pcs, executed, is_taken, IsWide}

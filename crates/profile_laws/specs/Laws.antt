@@ -1,7 +1,8 @@
 -- What the tally of a run comes to.
 use Rattle.std.specs.Prelude.{◌≡◌, ℕ, ◌<◌, ◌≤◌, ◌^◌, false, true}
+use Rattle.cells.specs.Cells.{IsPc}
 use Rattle.cells.specs.Run.{State, is_over}
-use Rattle.profile_data.specs.Profile.{Profiled, IsPc, IsProfile}
+use Rattle.profile_data.specs.Profile.{Profiled, IsProfile}
 use Rattle.fitting.specs.Fails.{state_at, pc_at}
 use Rattle.profile_laws.specs.Profiles.{steps, IsProfileOf, IsWide}
 use Rattle.profile_laws.specs.Tally.{kept, profile_of}

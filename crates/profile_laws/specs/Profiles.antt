@@ -7,11 +7,11 @@ use Rattle.cells.specs.declared.Cell.TheVariants.{Byte}
 use Rattle.cells.specs.Cells.{Arch, value}
 use Rattle.cells.specs.Run.{State, is_over}
 use Rattle.rv_run.specs.Values.{register_value}
-use Rattle.rv_run.specs.Effect.{holds}
+use Rattle.rv_run.specs.Effect.{holds, is_store}
 use Rattle.rv_run.specs.Machine.{machine, word_at}
 use Rattle.profile_data.specs.Profile.{Tally, Profiled, pc_of, target_count}
 use Rattle.fitting.specs.Claims.{among}
-use Rattle.fitting.specs.Fails.{is_store, IsRegisterJump, program, state_at, arch_at, pc_at, fetched_at, IsLatestWriter}
+use Rattle.fitting.specs.Fails.{IsRegisterJump, program, state_at, arch_at, pc_at, fetched_at, IsLatestWriter}
 
 -- how many numbers below n pass
 unfoldable pub count_below : (ℕ → Bool) → ℕ → ℕ

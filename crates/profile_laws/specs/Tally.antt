@@ -6,12 +6,12 @@ use Rattle.rv_word.specs.Meaning.{meaning}
 use Rattle.rv_word.specs.Masks.{sources}
 use Rattle.cells.specs.Cells.{Arch, value}
 use Rattle.cells.specs.Run.{State, is_over}
-use Rattle.rv_run.specs.Effect.{first, load_count, load_from, store_size, sum32}
+use Rattle.rv_run.specs.Effect.{first, load_count, load_from, store_size, sum32, is_store}
 use Rattle.rv_run.specs.Machine.{machine, word_at}
 use Rattle.rv_run.specs.Calls.{read_count}
 use Rattle.profile_data.specs.Profile.{Tally, Profiled, row_at}
 use Rattle.fitting.specs.Claims.{among}
-use Rattle.fitting.specs.Fails.{is_store, program, state_at, pc_at}
+use Rattle.fitting.specs.Fails.{program, state_at, pc_at}
 use Rattle.profile_laws.specs.Profiles.{is_taken}
 
 -- ---- what a position does

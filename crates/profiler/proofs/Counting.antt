@@ -1,12 +1,12 @@
 -- From one position of a run to the next.
 use Rattle.std.proofs.Common.{◌≡◌, ℕ, suc, ◌+◌, ◌-◌, ◌<◌, ◌≤◌, ◌^◌, true, false, All, not, ◌⊎◌, ⊎_elim, sym, ap, ◌∙◌, subst, arith}
+use Rattle.cells.specs.Cells.{IsPc}
 use Rattle.std.proofs.lemmas.Bool.{cases_eq}
 use Rattle.cells.specs.Bytes.{number}
 use Rattle.cells.specs.Run.{State, is_over}
 use Rattle.rv_run.specs.Calls.{step}
 use Rattle.memory.specs.declared.Memory.{Ghosts}
 use Rattle.indexmap.specs.IndexMap.{values}
-use Rattle.profile_data.specs.Profile.{IsPc}
 use Rattle.seq_machine.specs.declared.machine.Machine.{Machine}
 use Rattle.seq_machine.specs.States.{state_of}
 use Rattle.fitting.specs.Fails.{state_at, pc_at, fetched_at, arch_at}

@@ -1,8 +1,8 @@
 -- How far a run was profiled.
 use Rattle.std.specs.Prelude.{◌≡◌, ℕ, ◌<◌, ◌≤◌, false}
+use Rattle.cells.specs.Cells.{IsPc}
 use Rattle.cells.specs.Run.{State, is_over}
 use Rattle.memory.specs.declared.Memory.{Ghosts}
-use Rattle.profile_data.specs.Profile.{IsPc}
 use Rattle.seq_machine.specs.declared.machine.Machine.{Machine}
 use Rattle.seq_machine.specs.States.{state_of}
 use Rattle.fitting.specs.Fails.{state_at, pc_at}

@@ -1,13 +1,14 @@
 //! Runs a program and counts what it does.
 
 ghost use Rattle.std.specs.Prelude.{◌≡◌, ℕ, ◌+◌, ◌-◌, ◌<◌, ◌≤◌, ◌^◌, OnOk, IfOk, IfErr, IsNone};
+ghost use Rattle.cells.specs.Cells.{IsPc};
 ghost use Rattle.cells.specs.Bytes.{number};
 ghost use Rattle.rv_run.specs.Calls.{step as next_state};
 ghost use Rattle.indexmap.specs.IndexMap.{values};
 ghost use Rattle.elf_reader.specs.Executable.{IsProgram};
 ghost use Rattle.seq_machine.specs.States.{state_of};
 ghost use Rattle.seq_machine.specs.Parts.{start_of};
-ghost use Rattle.profile_data.specs.Profile.{Profiled, IsPc};
+ghost use Rattle.profile_data.specs.Profile.{Profiled};
 ghost use Rattle.profile_laws.specs.Profiles.{steps, IsProfileOf, IsWide};
 ghost use Rattle.profile_laws.specs.Tally.{visit, kept, nothing_kept, after_visit, rows_after};
 ghost use Rattle.profiler.specs.declared.error.ProfilingErr.TheVariants.{Wide};

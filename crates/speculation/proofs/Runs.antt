@@ -11,7 +11,7 @@ use Rattle.cells.specs.Run.{State, is_over, printed}
 use Rattle.cells.specs.Task.{moves, said, recorded, recorded_values, IsQuiet, Matches, apply}
 use Rattle.cells.specs.Differ.{differ, is_other, IsFirst, IsFirstDiffer}
 use Rattle.cells.proofs.Law.{jump, same_said, quiet_too, Matches-less}
-use Rattle.cells.proofs.Differs.{differ_first}
+use Rattle.cells.proofs.Differs.{cell_is_place, differ_first}
 use Rattle.speculation.specs.declared.Ending.{Ending}
 use Rattle.speculation.specs.declared.Ending.TheVariants.{Reached, Met, Full}
 use Rattle.speculation.specs.World.{World, IsWorld, step, seq, is_anchor, arrivals}
@@ -36,7 +36,7 @@ not_other false p v e h = absurd (true≢false (sym e))
 matches_none : (m : Machine) → IsLocal m → (c s : Arch) (t : ℕ) → differ (recorded_values m c t) (value s) ≡ None → Matches m c t s
 matches_none m local c s t e x r =
     let none : IsFirstDiffer (recorded_values m c t) (value s) None = subst (IsFirstDiffer (recorded_values m c t) (value s)) e (differ_first (recorded_values m c t) (value s)) in
-    not_other (recorded m c t x) (value c x) (value s x) r (none x (recorded_within m local c t x r))
+    not_other (recorded m c t x) (value c x) (value s x) r (none x (cell_is_place x (recorded_within m local c t x r)))
 
 pub first_told : (recorded : Cell → Option ℕ) (found : Cell → ℕ) (d : Differ) → differ recorded found ≡ Some d → IsFirst recorded found d
 first_told recorded found d e = subst (IsFirstDiffer recorded found) e (differ_first recorded found)

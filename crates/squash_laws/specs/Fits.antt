@@ -3,7 +3,7 @@ use Rattle.std.specs.Prelude.{◌≡◌, ℕ, ◌+◌, ◌<◌, ◌≤◌, zero,
 use Rattle.cells.specs.declared.Cell.{Cell}
 use Rattle.cells.specs.declared.Cell.TheVariants.{Byte}
 use Rattle.cells.specs.Cells.{Arch}
-use Rattle.cells.specs.Run.{State, is_over}
+use Rattle.cells.specs.Run.{State, is_over, count_after}
 use Rattle.speculation.specs.World.{World, IsWorld, Master, seq, is_anchor}
 use Rattle.squash_laws.specs.Image.{Image, Words, IsWords, Exec, Go, Fork, body, begin_at, drive_of}
 
@@ -50,12 +50,7 @@ abbrev pub stale : Setting → ℕ → ℕ → Bool
 stale s zero a = false
 stale s (suc k) a = cond (s.puts (seq s.world k) (Byte a)) (s.image.dead (arch_at s.world k)) (stale s k a)
 
--- how many of the d positions after o pass
-abbrev pub count_after : (ℕ → Bool) → ℕ → ℕ → ℕ
-count_after test o zero = 0
-count_after test o (suc d) = cond (test (suc (o + d))) 1 0 + count_after test o d
-
--- how many of them are at an anchor's pc
+-- how many of the d positions after o are at an anchor's pc
 abbrev pub arrived : World → ℕ → ℕ → ℕ
 arrived w o d = count_after (λ k. is_anchor w (pc_at w k)) o d
 

@@ -8,8 +8,8 @@ use Rattle.assume_list.specs.Verdicts.{IsVerdict}
 use Rattle.assume_list.proofs.Judged.{IsBound, told_bound, late_verdict, failed_verdict, through_verdict}
 use Rattle.assume_list.proofs.check.judge.Goals as goal
 
-pub returns-in-Late : goal.returns-in-Late
-returns-in-Late g c =
+pub returns-in-Late-clause-verdict : goal.returns-in-Late-clause-verdict
+returns-in-Late-clause-verdict g c =
     let at = g.M.Memory.at in
     let image = c.args.image.now in
     let start = state_of at c.args.watch.now.machine in
@@ -21,8 +21,8 @@ returns-in-Late g c =
     let Has : Passed → Type 0 = (λ p. HasPassed start image c.args.budget c.bound_of-bound.result m.position (state_of at m) ws p) in
     late_verdict start image c.requires.image c.args.budget c.bound_of-bound.result c.unwrap_or-span.result told c.in-Late.position (subst Has c.in-Late.is c.in_ok-passed.ensures.passed)
 
-pub returns-in-Failed : goal.returns-in-Failed
-returns-in-Failed g c =
+pub returns-in-Failed-clause-verdict : goal.returns-in-Failed-clause-verdict
+returns-in-Failed-clause-verdict g c =
     let at = g.M.Memory.at in
     let image = c.args.image.now in
     let start = state_of at c.args.watch.now.machine in
@@ -34,10 +34,10 @@ returns-in-Failed g c =
     let Has : Passed → Type 0 = (λ p. HasPassed start image c.args.budget c.bound_of-bound.result m.position (state_of at m) ws p) in
     subst (λ v. IsVerdict start image c.args.budget v) (sym c.or_late.ensures)
     (failed_verdict start image c.requires.image c.args.budget c.bound_of-bound.result c.unwrap_or-span.result told m.position (state_of at m) ws c.in_ok-late-in-Failed.late c.in-Failed.which
-    (m.position - 1) c.min.result (subst Has c.in-Failed.is c.in_ok-passed.ensures.passed) refl c.min.ensures (c.in_ok-late-in-Failed.ensures start))
+    (m.position - 1) c.min.result (subst Has c.in-Failed.is c.in_ok-passed.ensures.passed) refl c.min.ensures (c.in_ok-late-in-Failed.ensures.awaited start))
 
-pub returns : goal.returns
-returns g c =
+pub returns-clause-verdict : goal.returns-clause-verdict
+returns-clause-verdict g c =
     let at = g.M.Memory.at in
     let image = c.args.image.now in
     let start = state_of at c.args.watch.now.machine in
@@ -50,4 +50,4 @@ returns g c =
     let t : IsThrough start image c.args.budget c.bound_of-bound.result m.position (state_of at m) ws = subst Has c.in-Through.is c.in_ok-passed.ensures.passed in
     subst (λ v. IsVerdict start image c.args.budget v) (sym c.or_late-in-Through.ensures)
     (through_verdict start image c.requires.image c.args.budget c.bound_of-bound.result c.unwrap_or-span.result told m.position (state_of at m) ws c.in_ok-late-in-Through.late t
-    (c.in_ok-late-in-Through.ensures start t.reached))
+    (c.in_ok-late-in-Through.ensures.awaited start t.reached))

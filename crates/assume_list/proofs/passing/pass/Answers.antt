@@ -5,6 +5,7 @@ use Rattle.image_world.specs.World.{count_of}
 use Rattle.fitting.specs.Fits.{is_anchor_pc}
 use Rattle.assume_laws.specs.Looks.{first_failing}
 use Rattle.memory_access.specs.Shadows.{mark_at}
+use Rattle.assume_list.specs.Marks.{dead_in}
 use Rattle.assume_list.specs.Shown.{shown}
 use Rattle.assume_list.specs.Passes.{HasTurned}
 use Rattle.assume_list.proofs.Watched.{next, first_is}
@@ -21,6 +22,7 @@ loop-alloc-init g c =
       reached = reached_first start c.args.image.now c.args.bound c.args.watch.now.machine.position start (shown c.args.waits.now) zero refl c.requires.none;
       clean = clean_first start c.args.image.now c.args.watch.now.machine.position zero;
       within = omega (arith, zero);
+      known = c.requires.known;
       arrivals = (let none = c.requires.arrivals in omega (arith, none));
       early = c.requires.early;
       limit = refl;
@@ -56,7 +58,7 @@ returns-in-Some-first-clause-passed g c =
     let Turned : Option ℕ → Type 0 =
     (λ o. HasTurned image.limit c.bound_after-until.result j (count_of image s.arch.pc) c.in_ok-seen.seen.stops (is_anchor_pc image t.arch.pc) (shown c.loop-alloc.waits) (shown c.take_turn.new.waits) o) in
     let fails : c.in_ok-seen.seen.first ≡ first_failing start image j =
-    c.in_ok-seen.ensures.first ∙ first_is start image j s (at w.program) (at w.dead) (mark_at at w.marks) w.analysed i.watched in
+    c.in_ok-seen.ensures.first ∙ first_is start image j s (at w.program) (dead_in image.assumptions) (mark_at at w.marks) w.analysed i.watched in
     let below = (goes w.machine.end j _ c.goes_on.result c.goes_on.ensures c.loop-alloc-test.true).1 in
     passed_failed start image c.in_ok-seen.seen.first c.args.budget c.args.bound c.bound_after-until.result j c.step.new.self.machine.position c.in-Some-first.which s t
     (shown c.loop-alloc.waits) (shown c.take_turn.new.waits) c.in_ok-seen.seen.stops c.bound_after-until.ensures c.in-Some-first.is fails i.reached i.clean going below
@@ -76,17 +78,18 @@ loop-alloc-preserved g c =
     let Turned : Option ℕ → Type 0 =
     (λ o. HasTurned image.limit c.bound_after-until.result j (count_of image s.arch.pc) c.in_ok-seen.seen.stops (is_anchor_pc image t.arch.pc) (shown c.loop-alloc.waits) (shown c.take_turn.new.waits) o) in
     let fails : c.in_ok-seen.seen.first ≡ first_failing start image j =
-    c.in_ok-seen.ensures.first ∙ first_is start image j s (at w.program) (at w.dead) (mark_at at w.marks) w.analysed i.watched in
+    c.in_ok-seen.ensures.first ∙ first_is start image j s (at w.program) (dead_in image.assumptions) (mark_at at w.marks) w.analysed i.watched in
     let on = passed_on_so start image c.in_ok-seen.seen.first c.args.bound c.bound_after-until.result j c.step.new.self.machine.position s t
     (shown c.loop-alloc.waits) (shown c.take_turn.new.waits) c.in_ok-seen.seen.stops c.bound_after-until.ensures c.in-None-first.is fails i.reached i.clean going
     c.in_ok-seen.ensures.state c.in_ok-seen.ensures.position c.in_ok-seen.ensures.stops (subst Turned c.in-None.is c.in_ok-since.ensures.turned) in
     let later = c.step.new.self in
     record {
-      watched = next start image j later.machine.position s t (at w.program) (at w.dead) (mark_at at w.marks) (at later.program) (at later.dead) (mark_at at later.marks) w.analysed later.analysed
-          i.watched c.in_ok-seen.ensures.position c.in_ok-seen.ensures.state c.in_ok-seen.ensures.program c.in_ok-seen.ensures.dead c.in_ok-seen.ensures.marks c.in_ok-seen.ensures.analysed;
+      watched = next start image j later.machine.position s t (at w.program) (dead_in image.assumptions) (mark_at at w.marks) (at later.program) (dead_in image.assumptions) (mark_at at later.marks) w.analysed later.analysed
+          i.watched c.in_ok-seen.ensures.position c.in_ok-seen.ensures.state c.in_ok-seen.ensures.program refl c.in_ok-seen.ensures.marks c.in_ok-seen.ensures.analysed;
       listed = c.step.ensures.listed ∙ i.listed;
       reached = on.0;
       clean = on.1;
+      known = c.take_turn.ensures.known;
       within = (let p = c.in_ok-seen.ensures.position in let below = (goes w.machine.end j _ c.goes_on.result c.goes_on.ensures c.loop-alloc-test.true).1 in omega (arith, p, below));
       arrivals = (let a = c.in_ok-since.ensures.arrivals in let p = c.in_ok-seen.ensures.position in omega (arith, a, p));
       early = c.in_ok-since.ensures.early;

@@ -2,6 +2,8 @@
 use Rattle.std.proofs.Common.{◌≡◌, ◌≤◌, ◌-◌}
 use Rattle.seq_machine.specs.States.{state_of}
 use Rattle.memory_access.specs.Shadows.{mark_at}
+use Rattle.assume_list.specs.Marks.{dead_in}
+use Rattle.assume_list.specs.Places.{AreKnown}
 use Rattle.assume_list.specs.Watched.{IsWatched}
 use Rattle.assume_list.specs.Shown.{IsEarly, shown}
 use Rattle.assume_list.specs.Passes.{IsReached, IsClean}
@@ -14,11 +16,12 @@ invariant-loop-alloc g l =
     let s = state_of at l.watch.machine in
     let j = l.watch.machine.position in
     record {
-      watched : IsWatched start l.image j s (at l.watch.program) (at l.watch.dead) (mark_at at l.watch.marks) l.watch.analysed;
+      watched : IsWatched start l.image j s (at l.watch.program) (dead_in l.image.assumptions) (mark_at at l.watch.marks) l.watch.analysed;
       listed : l.watch.listed ≡ l.fn.watch.listed;
       reached : IsReached start l.image l.bound j s (shown l.waits);
       clean : IsClean start l.image j;
       within : j ≤ l.budget;
+      known : AreKnown l.pcs l.image;
       arrivals : l.waits.arrivals ≤ l.watch.machine.position;
       early : IsEarly l.waits.due l.waits.limit (shown l.waits);
       limit : l.waits.limit ≡ l.fn.waits.limit;

@@ -7,7 +7,7 @@ use Rattle.assume_list.proofs.Turns.{overdue_near}
 use Rattle.assume_list.proofs.passing.take_turn.Goals as goal
 
 pub overflow_sub-result : goal.overflow_sub-result
-overflow_sub-result g c =
+overflow_sub-result c =
     let late = sym c.in_ok-step.ensures.late ∙ c.if-branch.true in
     let limit = c.step.ensures.limit in
     let near = overdue_near c.args.waits.now.limit c.args.turn.position _ late in
@@ -15,7 +15,7 @@ overflow_sub-result g c =
     omega (arith, near, here, limit)
 
 pub returns-then-branch-clause-turned : goal.returns-then-branch-clause-turned
-returns-then-branch-clause-turned g c =
+returns-then-branch-clause-turned c =
     let late = sym c.in_ok-step.ensures.late ∙ c.if-branch.true in
     let limit = c.step.ensures.limit in
     let near = overdue_near c.args.waits.now.limit c.args.turn.position _ late in

@@ -1,6 +1,5 @@
 -- Nothing is marked yet.
-use Rattle.std.proofs.Common.{◌≡◌, ℕ, map, ap, ◌∙◌, refl}
-use Rattle.dist_image.specs.Image.{Distilled, premise}
+use Rattle.std.proofs.Common.{ℕ, ap, refl}
 use Rattle.seq_machine.specs.States.{state_of}
 use Rattle.memory_access.specs.Shadows.{mark_at}
 use Rattle.assume_list.specs.Marks.{dead_in}
@@ -11,7 +10,5 @@ pub returns-clause-watched : goal.returns-clause-watched
 returns-clause-watched g c =
     let at = g.M.Memory.at in
     let start = state_of at c.args.machine in
-    let claimed : at c.in_ok-dead_stores.field-0 ≡ dead_in c.args.image.now.assumptions =
-    c.in_ok-dead_stores.ensures ∙ ap (λ xs. dead_in (map premise xs)) c.deref.ensures.value ∙ ap (λ (i : Distilled). dead_in i.assumptions) c.image.view_is in
-    begun start c.args.image.now c.args.machine.position start (at c.in_ok-program.program) (at c.in_ok-dead_stores.field-0) (mark_at at c.in_ok-new.field-0) c.is_analysed-analysed.result
-    c.requires.position refl c.in_ok-program.ensures claimed (λ a. ap (λ (f : ℕ → ℕ). f a) c.in_ok-new.ensures) c.is_analysed-analysed.ensures
+    begun start c.args.image.now c.args.machine.position start (at c.in_ok-program.program) (dead_in c.args.image.now.assumptions) (mark_at at c.in_ok-new.field-0) c.is_analysed-analysed.result
+    c.requires.position refl c.in_ok-program.ensures refl (λ a. ap (λ (f : ℕ → ℕ). f a) c.in_ok-new.ensures) c.is_analysed-analysed.ensures

@@ -36,9 +36,6 @@ returns-clause-first g c =
       changed = c.look_ahead-coming.ensures.changed;
       analysed = c.requires.analysed;
       next = next;
-      stays = c.is_noted.ensures c.args.image.now c.requires.known ∙ ap (is_analysed c.args.image.now) next;
+      stays = c.is_noted.ensures.noted ∙ ap (is_analysed c.args.image.now) next;
     })
     (λ at. ap (λ (ms : List ℕ). among ms (at + 1)) c.deref.ensures.value ∙ marks_seen s marks c.read_marks.new.read.items _ _ c.look_ahead-coming.ensures.loads c.in_ok-read_marks.ensures at)
-
-pub returns-clause-analysed : goal.returns-clause-analysed
-returns-clause-analysed g c = c.is_noted.ensures c.args.image.now c.requires.known
