@@ -3,6 +3,7 @@
 ghost use Rattle.std.specs.Prelude.{◌≡◌, IfOk};
 ghost use Rattle.std.specs.List.Sorted.{IsStrictlyIncreasing};
 ghost use Rattle.distill_rules.specs.Points.{fate_of, point_by, points};
+ghost use Rattle.distill_rules.specs.Solution.{IsFit, AreFit};
 ghost use Rattle.cuts.specs.Listed.{IsListed};
 
 use cuts::{CutList, is_among};
@@ -51,7 +52,8 @@ pub(crate) fn parts(
 ) -> Result<Vec<Part>, AllocError>
     requires listed { IsListed c.now }
     requires anchors { IsStrictlyIncreasing anchors.now }
-    ensures { IfOk result (λ parts. parts.items ≡ points c.now anchors.now g.now) }
+    ensures parts { IfOk result (λ parts. parts.items ≡ points c.now anchors.now g.now) }
+    ensures fit { IfOk result (λ parts. AreFit parts.items) }
 {
     let mut parts = Vec::new(alloc);
     for spot in &g.spots {
@@ -69,9 +71,11 @@ fn part_of(
     dead: bool,
     is_anchor: bool,
 ) -> Result<Part, AllocError>
-    ensures { IfOk result (λ part. part ≡ point_by cut dead is_anchor spot.now) }
+    ensures part { IfOk result (λ part. part ≡ point_by cut dead is_anchor spot.now) }
+    ensures fit { IfOk result IsFit }
 {
-    let instruction = decode(spot.word);
+    let word = spot.word;
+    let instruction = decode(word);
     let reads = reads(&instruction);
     Ok(Part {
         pc: spot.pc,

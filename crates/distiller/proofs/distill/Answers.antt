@@ -25,7 +25,7 @@ prove-unreachable-requires c =
     omega (arith, few, long, c.g.inside.spots.ok.0, c.len.ensures, c.len-rows.ensures.len)
 
 pub lay_out-requires-clause-masks : goal.lay_out-requires-clause-masks
-lay_out-requires-clause-masks c = ap length (c.deref-2.ensures.value ∙ c.in_ok-m.ensures {u = tt}) ∙ as_many_masks c.in_ok-c.c c.deref.result.now c.in_ok-g.g
+lay_out-requires-clause-masks c = ap length (c.deref-2.ensures.value ∙ c.in_ok-m.ensures.solved) ∙ as_many_masks c.in_ok-c.c c.deref.result.now c.in_ok-g.g
 
 -- the image is the distilled one
 is_distilled : (c : After-drop-c-inside-3) → c.in_ok-lay_out.field-0 ≡ distilled (word_in c.args.p.now) c.args.p.now.entry c.args.f.now c.args.o.now
@@ -39,7 +39,7 @@ is_distilled c =
     let sites : c.in_ok-g.g ≡ graph_of word entry f o = c.in_ok-g.ensures.graph ∙ ap (graph word f.rows) cut in
     let begun : c.in_ok-a.a ≡ places_of word entry f o = c.in_ok-a.ensures.places ∙ ap (λ (c : Cuts). places word entry f c o.hot o.goal) cut in
     let pcs = c.deref.ensures.value ∙ ap (λ (a : Places). a.pcs) (c.a.view_is ∙ begun) in
-    let masks : c.deref-2.result.now ≡ masks_of word entry f o = c.deref-2.ensures.value ∙ c.in_ok-m.ensures {u = tt} ∙ (λ i. solved (points (cut i) (pcs i) (sites i))) in
+    let masks : c.deref-2.result.now ≡ masks_of word entry f o = c.deref-2.ensures.value ∙ c.in_ok-m.ensures.solved ∙ (λ i. solved (points (cut i) (pcs i) (sites i))) in
     c.in_ok-lay_out.ensures {u = tt} ∙ (λ i. laid_out (sites i) (masks i) (cut i) f.rows (begun i) o.limit)
 
 pub returns-clause-exact : goal.returns-clause-exact
