@@ -1,5 +1,5 @@
 // Bytes on their way in and out, and the count of faults.
-ghost use Rattle.std.specs.Prelude.{◌≡◌, ◌≢◌, ℕ, ◌<◌, ◌≤◌, length, take, IfOk, IfSome, IsOk, OnOk, OnErr, []};
+ghost use Rattle.std.specs.Prelude.{◌≡◌, ◌≢◌, ℕ, ◌+◌, ◌<◌, ◌≤◌, List, length, take, IfOk, IfSome, IsOk, OnOk, OnErr, []};
 ghost use Rattle.std.specs.Io.KnownBytes.{Appends, Consumes, IsAtEnd};
 ghost use Rattle.outside.specs.Answers.{one_more};
 
@@ -11,7 +11,7 @@ use std::io::{ErrorKind, Read, Write};
 // How many bytes are asked for at a time.
 const PIECE: usize = 65536;
 
-// Reads to the end, or until more than `limit` bytes came.
+// Reads to the end, or until more than `limit` bytes came. It takes no more than one byte past the limit.
 pub(crate) fn read_up_to<R: Read>(
     alloc: Global,
     from: &mut R,
@@ -22,16 +22,22 @@ pub(crate) fn read_up_to<R: Read>(
     ensures within { IfOk result (λ v. length v.items ≤ limit) }
     ensures too_long { result ≡ Err StoreErr.TooLong
         → IfSome (R.remaining from.old) (λ bytes. limit < length bytes) }
+    ensures taken { result ≡ Err StoreErr.TooLong
+        → (v : List ℕ) × Consumes (R.remaining from.old) (R.remaining from.new) v × (length v ≤ limit + 1) }
     ensures never_absent { result ≢ Err StoreErr.Absent }
 {
     let mut bytes = Vec::new(alloc);
     let mut piece = [0; PIECE];
     loop {
-        let count = from.read(&mut piece).map_err(|_| StoreErr::Failed)?;
+        let left = limit - bytes.len() as u64;
+        let asked = left.saturating_add(1).min(PIECE as u64) as usize;
+        let Ok(count) = from.read(&mut piece[..asked]) else {
+            return Err(StoreErr::Failed);
+        };
         if count == 0 {
             return Ok(bytes);
         }
-        if count as u64 > limit - bytes.len() as u64 {
+        if count as u64 > left {
             return Err(StoreErr::TooLong);
         }
         bytes

@@ -16,10 +16,12 @@ pub struct Pair<M: Memory> {
 }
 
 impl<M: Memory> Pair<M> {
-    ghost use Rattle.std.specs.Prelude.{◌≡◌, ℕ, ◌+◌, ◌-◌, ◌^◌, ◌<◌, ◌≤◌, IfOk, OnErr};
+    ghost use Rattle.std.specs.Prelude.{◌≡◌, ℕ, ◌+◌, ◌-◌, ◌^◌, ◌<◌, ◌≤◌, ◌||◌, Bool, true, IfOk, OnErr};
+    ghost use Rattle.cells.specs.Run.{is_over};
+    ghost use Rattle.speculation.specs.declared.Mode.TheVariants as mode;
     ghost use Rattle.speculation.specs.World.{seq};
     ghost use Rattle.speculation.specs.Engine.{happens, fresh};
-    ghost use Rattle.speculation_laws.specs.Told.{Tells};
+    ghost use Rattle.speculation_laws.specs.Told.{Tells, waits, is_idle};
     ghost use Rattle.squash_laws.specs.Tracks.{IsSafe};
     ghost use Rattle.rv_run.specs.Start.{program_word};
     ghost use Rattle.elf_reader.specs.Executable.{IsProgram};
@@ -68,10 +70,17 @@ impl<M: Memory> Pair<M> {
         ensures start { start_of M.at self.new.engine ≡ start_of M.at self.old.engine }
         ensures image { image_of self.new.engine ≡ image_of self.old.engine }
         ensures slaves { slaves_of self.new.engine ≡ slaves_of self.old.engine }
-        // What is committed is the sequential run, and what is told is so.
+        // What is committed is the sequential run, and never falls back; and what is told is so.
         ensures sequential { (model_of M.at self.new.engine).committed ≡ seq (world_of M.at self.new.engine) (model_of M.at self.new.engine).position }
+        ensures position { let c = (model_of M.at self.new.engine).counts in (model_of M.at self.new.engine).position ≡ c.by_tasks + c.serial }
         ensures rises { (model_of M.at self.old.engine).position ≤ (model_of M.at self.new.engine).position }
         ensures told { IfOk result (λ effect. Tells (world_of M.at self.old.engine) (model_of M.at self.old.engine) e effect (model_of M.at self.new.engine)) }
+        ensures idle { IfOk result (λ effect. is_idle effect ≡ (is_over (model_of M.at self.old.engine).committed || waits (world_of M.at self.old.engine) (model_of M.at self.old.engine) e)) }
+        // A squash costs a step but for the last one, no position is gained without an event, and where speculation is given up a step is owed.
+        ensures squashed { let c = (model_of M.at self.new.engine).counts in c.squashed ≤ c.serial + 1 }
+        ensures serial { (model_of M.at self.new.engine).counts.serial ≤ (model_of M.at self.new.engine).position }
+        ensures events { (model_of M.at self.new.engine).position ≤ (model_of M.at self.new.engine).counts.events }
+        ensures owed { (model_of M.at self.old.engine).mode ≡ mode.Speculating → (debt : Bool) → (model_of M.at self.new.engine).mode ≡ mode.Serial debt → debt ≡ true }
         // With an image that fits and a list that is met, nothing is squashed or given up.
         ensures safe { let start = start_of M.at self.old.engine in let image = image_of self.old.engine in
             IfOk result (λ effect. Fits (words_of start) image → (n : ℕ) → Meets start image n
