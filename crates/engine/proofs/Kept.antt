@@ -1,5 +1,5 @@
 -- What an event keeps, from what happened on the stage and what was counted.
-use Rattle.std.proofs.Common.{◌≡◌, ℕ, ◌+◌, ◌-◌, ◌^◌, ◌<◌, ◌≤◌, Bool, true, false, cond, ◌||◌, [], ◌∷◌, length, sym, ap, ◌∙◌, subst, arith}
+use Rattle.std.proofs.Common.{◌≡◌, ℕ, ◌+◌, ◌-◌, ◌^◌, ◌<◌, ◌≤◌, Bool, true, false, cond, ◌||◌, List, [], ◌∷◌, length, refl, sym, ap, ◌∙◌, subst, arith}
 use Rattle.std.specs.Coded.{le_prop, Coded-set, coded_ℕ}
 use Rattle.std.proofs.Math.Logic.{∥∥₁_elim, ∥∥₁_map}
 use Rattle.cells.specs.Run.{State, is_over}
@@ -11,7 +11,8 @@ use Rattle.speculation.specs.declared.Event.TheVariants.{Master as MasterEvent, 
 use Rattle.speculation.specs.declared.Mode.TheVariants.{Serial, Speculating}
 use Rattle.speculation.specs.World.{World, seq}
 use Rattle.speculation.specs.Engine.{Model, Answer, counted as counted_answer, going_on, happens}
-use Rattle.speculation.specs.Kept.{Holds}
+use Rattle.speculation.specs.Task.{Task}
+use Rattle.speculation.specs.Kept.{Holds, AreNumbered}
 use Rattle.speculation.proofs.Keeps.{happens_keeps, bounded}
 use Rattle.speculation_laws.specs.Told.{Tells, waits, is_idle}
 use Rattle.speculation_laws.proofs.Answers.{happens_tells, happens_idle, run_rises}
@@ -22,6 +23,11 @@ use Rattle.image_world.proofs.Known.{known}
 use Rattle.engine.specs.Shown.{Shown, modelled, Happens, MayTake, IsCostly}
 use Rattle.engine.specs.Counted.{counted, AreCounts}
 use Rattle.engine.proofs.Sets.{State-set}
+
+-- that tasks are numbered has one proof at most
+numbered_prop : (next : ℕ) (ts : List Task) → IsProp (AreNumbered next ts)
+numbered_prop next [] = λ a b. refl
+numbered_prop next (t ∷ ts) = let rest = numbered_prop next ts in hlevel (Coded-set coded_ℕ, rest)
 
 -- of a model that has what is kept
 module _ (w : World) (m : Model) (holds : ∥ Holds w m ∥₁) where
@@ -42,6 +48,9 @@ module _ (w : World) (m : Model) (holds : ∥ Holds w m ∥₁) where
 
   pub live_few : length m.tasks ≤ w.slaves
   live_few = ∥∥₁_elim holds le_prop (λ h. h.live)
+
+  pub numbered : AreNumbered m.next m.tasks
+  numbered = ∥∥₁_elim holds (numbered_prop _ _) (λ h. h.numbers)
 
   made_few : m.counts.tasks + m.counts.dropped ≤ m.counts.events
   made_few = ∥∥₁_elim holds le_prop (λ h. let made = h.made in let next = h.next in omega (arith, made, next))

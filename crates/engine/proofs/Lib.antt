@@ -1,6 +1,7 @@
--- Lemmas of the engine: sets, lists of tasks, anchors, the events of the master and of the slaves, commits, and what is kept.
+-- Lemmas of the engine: sets, lists of tasks, the task of a slave, anchors, the events of the master and of the slaves, commits, and what is kept.
 pub mod Sets
 pub mod Lists
+pub mod Turns
 pub mod Anchors
 pub mod Masters
 pub mod Runs

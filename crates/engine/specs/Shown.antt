@@ -1,5 +1,5 @@
 -- What contracts see of the engine's stage, and what an event does to it.
-use Rattle.std.specs.Prelude.{◌≡◌, ℕ, ◌+◌, ◌%◌, Bool, true, cond, not, ◌&&◌, nat_eq, List, [], ◌∷◌, length, map, Option, Some, None, is_some}
+use Rattle.std.specs.Prelude.{◌≡◌, ℕ, ◌+◌, ◌-◌, ◌%◌, Bool, true, cond, not, ◌&&◌, nat_eq, nat_le, List, [], ◌∷◌, length, map, Option, Some, None, is_some}
 use Rattle.std.specs.Option.{option_map}
 use Rattle.cells.specs.Cells.{value}
 use Rattle.cells.specs.Run.{State, is_over}
@@ -115,6 +115,10 @@ IsCostly image slaves e s = (start : State) (c : Counts) → MayTake (going_on (
 -- a slave runs the task whose number is its own modulo the number of slaves
 abbrev pub is_run_by : ℕ → ℕ → TaskShown → Bool
 is_run_by slaves slave k = nat_eq (k.number % slaves) slave && not (is_some k.ending)
+
+-- on s slaves, how far behind the oldest task, whose number is f, the task of slave j stands
+abbrev pub place_of : ℕ → ℕ → ℕ → ℕ
+place_of s f j = cond (nat_le (f % s) j) (j - f % s) (j + s - f % s)
 
 -- the tasks behind the oldest one
 abbrev pub younger : List TaskShown → List TaskShown

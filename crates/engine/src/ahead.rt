@@ -77,6 +77,7 @@ impl<M: Memory> Stage<M> {
     }
 
     // The first task and the master begin at an anchor where the machine stands.
+    #[inline(never)]
     fn begin(&mut self, alloc: Global, anchor: &Anchor) -> Result<Effect, AllocError>
         requires anchor { IsAnchor 1_048_576 anchor.now }
         requires pc { anchor.now.pc ≡ self.old.machine.arch.pc }
@@ -122,6 +123,7 @@ impl<M: Memory> Stage<M> {
     }
 
     // The master begins a task at the anchor of this number. The task is made before the master goes on, which then takes no memory.
+    #[inline(never)]
     fn fork(&mut self, alloc: Global, number: u32) -> Result<Effect, AllocError>
         requires image { IsImage self.old.image }
         requires tasks { ∥ AreTasksOf self.old.image (shown M.at self.old).tasks ∥₁ }

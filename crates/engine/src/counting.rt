@@ -5,12 +5,12 @@ ghost use Rattle.engine.specs.Counted.{counted, AreCounts};
 
 use speculation::{Counts, Effect, Event};
 
-/// The counts after one event more.
-pub(crate) fn counted(before: Counts, e: Event, effect: Effect) -> Counts
-    requires { AreCounts (counted e effect before) }
-    ensures { result ≡ counted e effect before }
+/// Counts one event more.
+#[inline(always)]
+pub(crate) fn count(c: &mut Counts, e: Event, effect: Effect)
+    requires { AreCounts (counted e effect c.old) }
+    ensures { c.new ≡ counted e effect c.old }
 {
-    let mut c = before;
     c.events += 1;
     match effect {
         Effect::Committed { steps, dropped } => {
@@ -27,5 +27,4 @@ pub(crate) fn counted(before: Counts, e: Event, effect: Effect) -> Counts
         }
         _ => {}
     }
-    c
 }

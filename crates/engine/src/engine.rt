@@ -7,7 +7,7 @@ ghost use Rattle.seq_machine.specs.States.{state_of};
 ghost use Rattle.engine.specs.Shown.{shown, modelled, AreTasksOf};
 ghost use Rattle.engine.specs.Images.{IsImage-prop};
 
-use crate::counting::counted;
+use crate::counting::count;
 use crate::stage::Stage;
 use dist_image::Image;
 use memory::Memory;
@@ -139,7 +139,7 @@ impl<M: Memory> Engine<M> {
         ensures owed { (model_of M.at self.old).mode ≡ Mode.Speculating → (debt : Bool) → (model_of M.at self.new).mode ≡ Mode.Serial debt → debt ≡ true }
     {
         let effect = self.stage.happen(alloc, e)?;
-        self.counts = counted(self.counts, e, effect);
+        count(&mut self.counts, e, effect);
         Ok(effect)
     }
 

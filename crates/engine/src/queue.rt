@@ -6,7 +6,7 @@ ghost use Rattle.speculation.specs.Engine.{told_end, told_task, dropped_by};
 ghost use Rattle.layers.specs.Layered.{laid};
 ghost use Rattle.seq_machine.specs.States.{state_of, did_of as step_told};
 ghost use Rattle.slave.specs.Task.{shown as task_shown, did_of as task_told};
-ghost use Rattle.engine.specs.Shown.{is_run_by};
+ghost use Rattle.engine.specs.Shown.{is_run_by, place_of};
 
 use crate::stage::Stage;
 use cells::End;
@@ -36,12 +36,20 @@ fn of_task(did: SlaveDid) -> Effect
     }
 }
 
-// Whether a task runs on this one of so many slaves.
-fn runs<M: Memory>(task: &Task<M>, slaves: u64, slave: u64) -> bool
-    requires { 1 ≤ slaves }
-    ensures { result ≡ is_run_by slaves slave (task_shown M.at task.now) }
+// How far behind the oldest task, by its number, the task of this one of so many slaves stands.
+#[inline(always)]
+fn place_of(slaves: u8, oldest: u64, slave: u8) -> u64
+    requires { slave < slaves }
+    ensures { result ≡ place_of slaves oldest slave }
 {
-    task.number() % slaves == slave && task.ending().is_none()
+    let slaves = u64::from(slaves);
+    let slave = u64::from(slave);
+    let first = oldest % slaves;
+    if first <= slave {
+        slave - first
+    } else {
+        slave + slaves - first
+    }
 }
 
 // Gives the machine a task's pc and what it wrote, and moves its position on by the task's steps.
@@ -62,6 +70,7 @@ fn lay<M: Memory>(alloc: Global, task: &Task<M>, machine: &mut Machine<M>) -> Re
 impl<M: Memory> Stage<M> {
     ghost use Rattle.speculation.specs.declared.Event.TheVariants as event;
     ghost use Rattle.speculation.specs.Task.{steps_of};
+    ghost use Rattle.speculation.specs.Kept.{AreNumbered};
     ghost use Rattle.dist_image.specs.Image.{IsImage};
     ghost use Rattle.engine.specs.Shown.{shown, tasks_modelled, AreTasksOf, Does, IsCostly, retired, dropped_of};
 
@@ -86,20 +95,35 @@ impl<M: Memory> Stage<M> {
         }
     }
 
-    // The place of the task that runs on this slave.
+    // The place of the task that runs on this slave. Numbers of tasks follow one another, so no other task is looked at.
+    #[inline(always)]
     fn runner(&self, slave: u8) -> Option<usize>
-        requires { 1 ≤ self.now.slaves }
+        requires few { length self.now.tasks.items ≤ self.now.slaves }
+        requires numbers { AreNumbered self.now.next (tasks_modelled (shown M.at self.now).tasks) }
         ensures { result ≡ position (λ t. is_run_by self.now.slaves slave (task_shown M.at t)) self.now.tasks.items }
     {
-        let slaves = u64::from(self.slaves);
-        let slave = u64::from(slave);
-        self.tasks.iter().position(|task| runs(task, slaves, slave))
+        let Some(oldest) = self.tasks.front() else {
+            return None;
+        };
+        if self.slaves <= slave {
+            return None;
+        }
+        let place = place_of(self.slaves, oldest.number(), slave) as usize;
+        if self.tasks.len() <= place {
+            return None;
+        }
+        match self.tasks[place].ending() {
+            None => Some(place),
+            Some(_) => None,
+        }
     }
 
     /// An event of the task that runs on this slave, if there is one.
+    #[inline(always)]
     pub(crate) fn run(&mut self, alloc: Global, slave: u8) -> Result<Effect, AllocError>
         requires image { IsImage self.old.image }
-        requires slaves { 1 ≤ self.old.slaves }
+        requires few { length self.old.tasks.items ≤ self.old.slaves }
+        requires numbers { AreNumbered self.old.next (tasks_modelled (shown M.at self.old).tasks) }
         requires tasks { ∥ AreTasksOf self.old.image (shown M.at self.old).tasks ∥₁ }
         ensures ok { IfOk result (λ effect. Does self.old.image self.old.slaves (event.Slave slave) (shown M.at self.old) effect (shown M.at self.new)) }
         ensures tasks { OnOk result (∥ AreTasksOf self.old.image (shown M.at self.new).tasks ∥₁) }
@@ -119,6 +143,7 @@ impl<M: Memory> Stage<M> {
 
     /// The oldest task is committed if it is done and the machine holds what it took from its
     /// checkpoint. Where it is done and a cell differs, everything is given up.
+    #[inline(never)]
     pub(crate) fn commit(&mut self, alloc: Global) -> Result<Effect, AllocError>
         requires image { IsImage self.old.image }
         requires tasks { ∥ AreTasksOf self.old.image (shown M.at self.old).tasks ∥₁ }

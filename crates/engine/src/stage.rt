@@ -29,17 +29,20 @@ pub(crate) struct Stage<M: Memory> {
 impl<M: Memory> Stage<M> {
     ghost use Rattle.cells.specs.Run.{is_over};
     ghost use Rattle.speculation.specs.Task.{steps_of};
+    ghost use Rattle.speculation.specs.Kept.{AreNumbered};
     ghost use Rattle.dist_image.specs.Image.{IsImage};
     ghost use Rattle.engine.specs.Shown.{shown, tasks_modelled, AreTasksOf, Happens, IsCostly, given_up, at_rest};
 
     /// One event. Nothing happens once the machine has ended.
+    #[inline(always)]
     pub(crate) fn happen(&mut self, alloc: Global, e: Event) -> Result<Effect, AllocError>
         requires image { IsImage self.old.image }
-        requires slaves { 1 ≤ self.old.slaves }
         requires tasks { ∥ AreTasksOf self.old.image (shown M.at self.old).tasks ∥₁ }
         requires empty { (debt : Bool) → self.old.mode ≡ Mode.Serial debt → length self.old.tasks.items ≡ 0 }
         requires position { self.old.machine.position + steps_of (tasks_modelled (shown M.at self.old).tasks) < 2 ^ 64 - 1 }
         requires next { self.old.next < 2 ^ 64 - 1 }
+        requires few { length self.old.tasks.items ≤ self.old.slaves }
+        requires numbers { AreNumbered self.old.next (tasks_modelled (shown M.at self.old).tasks) }
         ensures ok { IfOk result (λ effect. Happens self.old.image self.old.slaves e (shown M.at self.old) effect (shown M.at self.new)) }
         ensures tasks { OnOk result (∥ AreTasksOf self.old.image (shown M.at self.new).tasks ∥₁) }
         ensures err { OnErr result (shown M.at self.new ≡ shown M.at self.old) }
@@ -61,6 +64,7 @@ impl<M: Memory> Stage<M> {
     }
 
     /// Gives up the master and all tasks.
+    #[inline(never)]
     pub(crate) fn give_up(&mut self)
         ensures shown { shown M.at self.new ≡ given_up (shown M.at self.old) }
         ensures image { self.new.image ≡ self.old.image }

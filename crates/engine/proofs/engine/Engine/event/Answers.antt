@@ -8,12 +8,18 @@ use Rattle.image_world.specs.World.{world}
 use Rattle.seq_machine.specs.States.{state_of}
 use Rattle.slave.proofs.Keeps.{on_err}
 use Rattle.engine.specs.Shown.{Shown, shown, modelled, AreTasksOf}
-use Rattle.engine.proofs.Kept.{sequential, position_is, squashed_few, serial_few, position_few, costly, counts_fit, answered, holds_after, told, idle, rises, owed}
+use Rattle.engine.proofs.Kept.{sequential, position_is, squashed_few, serial_few, position_few, numbered, costly, counts_fit, answered, holds_after, told, idle, rises, owed}
 use Rattle.engine.proofs.engine.Engine.event.Goals as goal
 
 -- what is kept of a stage is kept of one that shows the same
 same_holds : (w : World) (s t : Shown) (c : Counts) → t ≡ s → ∥ Holds w (modelled s c) ∥₁ → ∥ Holds w (modelled t c) ∥₁
 same_holds w s t c e = subst (λ (x : Shown). ∥ Holds w (modelled x c) ∥₁) (sym e)
+
+pub happen-requires-clause-numbers : goal.happen-requires-clause-numbers
+happen-requires-clause-numbers g c =
+    let at = g.M.Memory.at in
+    let o = c.args.self.now in
+    numbered (world (state_of at o.start) o.stage.image o.stage.slaves) (modelled (shown at o.stage) o.counts) o.holds
 
 pub returns-in_err-effect-clause-sure : goal.returns-in_err-effect-clause-sure
 returns-in_err-effect-clause-sure g c =
@@ -60,8 +66,8 @@ returns-in_err-effect-clause-events g c =
     let t = shown at c.happen.new.self in
     position_few w (modelled t o.counts) (same_holds w (shown at o.stage) t o.counts c.in_err-effect.ensures.err o.holds)
 
-pub counted-self-requires : goal.counted-self-requires
-counted-self-requires g c =
+pub count-requires : goal.count-requires
+count-requires g c =
     let at = g.M.Memory.at in
     let o = c.args.self.now in
     counts_fit (state_of at o.start) o.stage.image o.stage.slaves o.image o.some (shown at o.stage) o.counts o.holds c.args.e c.in_ok-effect.effect (shown at c.happen.new.self) c.in_ok-effect.ensures.ok c.requires
@@ -79,71 +85,71 @@ invariant_of-self-2 g c =
       some = subst (λ (n : ℕ). 1 ≤ n) slaves o.some;
       few = subst (λ (n : ℕ). n ≤ 64) slaves o.few;
       tasks = subst (λ (x : Distilled). ∥ AreTasksOf x t.tasks ∥₁) image c.in_ok-effect.ensures.tasks;
-      holds = subst (λ (x : Distilled × ℕ). ∥ Holds (world start x.0 x.1) (modelled t c.counted-self.result) ∥₁) (λ i. (image i, slaves i))
-          (holds_after start o.stage.image o.stage.slaves o.image o.some (shown at o.stage) o.counts o.holds c.args.e c.in_ok-effect.effect t c.in_ok-effect.ensures.ok c.counted-self.result c.counted-self.ensures);
+      holds = subst (λ (x : Distilled × ℕ). ∥ Holds (world start x.0 x.1) (modelled t c.count.new.c) ∥₁) (λ i. (image i, slaves i))
+          (holds_after start o.stage.image o.stage.slaves o.image o.some (shown at o.stage) o.counts o.holds c.args.e c.in_ok-effect.effect t c.in_ok-effect.ensures.ok c.count.new.c c.count.ensures);
     }
 
 pub returns-clause-ok : goal.returns-clause-ok
 returns-clause-ok g c =
     let at = g.M.Memory.at in
     let o = c.args.self.now in
-    answered (state_of at o.start) o.stage.image o.stage.slaves o.image o.some (shown at o.stage) o.counts o.holds c.args.e c.in_ok-effect.effect (shown at c.happen.new.self) c.in_ok-effect.ensures.ok c.counted-self.result c.counted-self.ensures
+    answered (state_of at o.start) o.stage.image o.stage.slaves o.image o.some (shown at o.stage) o.counts o.holds c.args.e c.in_ok-effect.effect (shown at c.happen.new.self) c.in_ok-effect.ensures.ok c.count.new.c c.count.ensures
 
 pub returns-clause-rises : goal.returns-clause-rises
 returns-clause-rises g c =
     let at = g.M.Memory.at in
     let o = c.args.self.now in
-    rises (state_of at o.start) o.stage.image o.stage.slaves o.image o.some (shown at o.stage) o.counts o.holds c.args.e c.in_ok-effect.effect (shown at c.happen.new.self) c.in_ok-effect.ensures.ok c.counted-self.result c.counted-self.ensures
+    rises (state_of at o.start) o.stage.image o.stage.slaves o.image o.some (shown at o.stage) o.counts o.holds c.args.e c.in_ok-effect.effect (shown at c.happen.new.self) c.in_ok-effect.ensures.ok c.count.new.c c.count.ensures
 
 pub returns-clause-told : goal.returns-clause-told
 returns-clause-told g c =
     let at = g.M.Memory.at in
     let o = c.args.self.now in
-    told (state_of at o.start) o.stage.image o.stage.slaves o.image o.some (shown at o.stage) o.counts o.holds c.args.e c.in_ok-effect.effect (shown at c.happen.new.self) c.in_ok-effect.ensures.ok c.counted-self.result c.counted-self.ensures
+    told (state_of at o.start) o.stage.image o.stage.slaves o.image o.some (shown at o.stage) o.counts o.holds c.args.e c.in_ok-effect.effect (shown at c.happen.new.self) c.in_ok-effect.ensures.ok c.count.new.c c.count.ensures
 
 pub returns-clause-idle : goal.returns-clause-idle
 returns-clause-idle g c =
     let at = g.M.Memory.at in
     let o = c.args.self.now in
-    idle (state_of at o.start) o.stage.image o.stage.slaves o.image o.some (shown at o.stage) o.counts o.holds c.args.e c.in_ok-effect.effect (shown at c.happen.new.self) c.in_ok-effect.ensures.ok c.counted-self.result c.counted-self.ensures
+    idle (state_of at o.start) o.stage.image o.stage.slaves o.image o.some (shown at o.stage) o.counts o.holds c.args.e c.in_ok-effect.effect (shown at c.happen.new.self) c.in_ok-effect.ensures.ok c.count.new.c c.count.ensures
 
 pub returns-clause-owed : goal.returns-clause-owed
 returns-clause-owed g c =
     let at = g.M.Memory.at in
     let o = c.args.self.now in
-    owed (state_of at o.start) o.stage.image o.stage.slaves o.image o.some (shown at o.stage) o.counts o.holds c.args.e c.in_ok-effect.effect (shown at c.happen.new.self) c.in_ok-effect.ensures.ok c.counted-self.result c.counted-self.ensures
+    owed (state_of at o.start) o.stage.image o.stage.slaves o.image o.some (shown at o.stage) o.counts o.holds c.args.e c.in_ok-effect.effect (shown at c.happen.new.self) c.in_ok-effect.ensures.ok c.count.new.c c.count.ensures
 
 pub returns-clause-sequential : goal.returns-clause-sequential
 returns-clause-sequential g c =
     let at = g.M.Memory.at in
     let o = c.args.self.now in
-    sequential (world (state_of at o.start) o.stage.image o.stage.slaves) (modelled (shown at c.happen.new.self) c.counted-self.result)
-    (holds_after (state_of at o.start) o.stage.image o.stage.slaves o.image o.some (shown at o.stage) o.counts o.holds c.args.e c.in_ok-effect.effect (shown at c.happen.new.self) c.in_ok-effect.ensures.ok c.counted-self.result c.counted-self.ensures)
+    sequential (world (state_of at o.start) o.stage.image o.stage.slaves) (modelled (shown at c.happen.new.self) c.count.new.c)
+    (holds_after (state_of at o.start) o.stage.image o.stage.slaves o.image o.some (shown at o.stage) o.counts o.holds c.args.e c.in_ok-effect.effect (shown at c.happen.new.self) c.in_ok-effect.ensures.ok c.count.new.c c.count.ensures)
 
 pub returns-clause-position : goal.returns-clause-position
 returns-clause-position g c =
     let at = g.M.Memory.at in
     let o = c.args.self.now in
-    position_is (world (state_of at o.start) o.stage.image o.stage.slaves) (modelled (shown at c.happen.new.self) c.counted-self.result)
-    (holds_after (state_of at o.start) o.stage.image o.stage.slaves o.image o.some (shown at o.stage) o.counts o.holds c.args.e c.in_ok-effect.effect (shown at c.happen.new.self) c.in_ok-effect.ensures.ok c.counted-self.result c.counted-self.ensures)
+    position_is (world (state_of at o.start) o.stage.image o.stage.slaves) (modelled (shown at c.happen.new.self) c.count.new.c)
+    (holds_after (state_of at o.start) o.stage.image o.stage.slaves o.image o.some (shown at o.stage) o.counts o.holds c.args.e c.in_ok-effect.effect (shown at c.happen.new.self) c.in_ok-effect.ensures.ok c.count.new.c c.count.ensures)
 
 pub returns-clause-squashed : goal.returns-clause-squashed
 returns-clause-squashed g c =
     let at = g.M.Memory.at in
     let o = c.args.self.now in
-    squashed_few (world (state_of at o.start) o.stage.image o.stage.slaves) (modelled (shown at c.happen.new.self) c.counted-self.result)
-    (holds_after (state_of at o.start) o.stage.image o.stage.slaves o.image o.some (shown at o.stage) o.counts o.holds c.args.e c.in_ok-effect.effect (shown at c.happen.new.self) c.in_ok-effect.ensures.ok c.counted-self.result c.counted-self.ensures)
+    squashed_few (world (state_of at o.start) o.stage.image o.stage.slaves) (modelled (shown at c.happen.new.self) c.count.new.c)
+    (holds_after (state_of at o.start) o.stage.image o.stage.slaves o.image o.some (shown at o.stage) o.counts o.holds c.args.e c.in_ok-effect.effect (shown at c.happen.new.self) c.in_ok-effect.ensures.ok c.count.new.c c.count.ensures)
 
 pub returns-clause-serial : goal.returns-clause-serial
 returns-clause-serial g c =
     let at = g.M.Memory.at in
     let o = c.args.self.now in
-    serial_few (world (state_of at o.start) o.stage.image o.stage.slaves) (modelled (shown at c.happen.new.self) c.counted-self.result)
-    (holds_after (state_of at o.start) o.stage.image o.stage.slaves o.image o.some (shown at o.stage) o.counts o.holds c.args.e c.in_ok-effect.effect (shown at c.happen.new.self) c.in_ok-effect.ensures.ok c.counted-self.result c.counted-self.ensures)
+    serial_few (world (state_of at o.start) o.stage.image o.stage.slaves) (modelled (shown at c.happen.new.self) c.count.new.c)
+    (holds_after (state_of at o.start) o.stage.image o.stage.slaves o.image o.some (shown at o.stage) o.counts o.holds c.args.e c.in_ok-effect.effect (shown at c.happen.new.self) c.in_ok-effect.ensures.ok c.count.new.c c.count.ensures)
 
 pub returns-clause-events : goal.returns-clause-events
 returns-clause-events g c =
     let at = g.M.Memory.at in
     let o = c.args.self.now in
-    position_few (world (state_of at o.start) o.stage.image o.stage.slaves) (modelled (shown at c.happen.new.self) c.counted-self.result)
-    (holds_after (state_of at o.start) o.stage.image o.stage.slaves o.image o.some (shown at o.stage) o.counts o.holds c.args.e c.in_ok-effect.effect (shown at c.happen.new.self) c.in_ok-effect.ensures.ok c.counted-self.result c.counted-self.ensures)
+    position_few (world (state_of at o.start) o.stage.image o.stage.slaves) (modelled (shown at c.happen.new.self) c.count.new.c)
+    (holds_after (state_of at o.start) o.stage.image o.stage.slaves o.image o.some (shown at o.stage) o.counts o.holds c.args.e c.in_ok-effect.effect (shown at c.happen.new.self) c.in_ok-effect.ensures.ok c.count.new.c c.count.ensures)
