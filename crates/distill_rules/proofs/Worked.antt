@@ -2,7 +2,7 @@
 use Rattle.std.proofs.Common.{refl}
 use Rattle.distill_rules.specs.Analysed.{analysed}
 use Rattle.distill_rules.specs.Rounds.{solved}
-use Rattle.distill_rules.specs.Rows.{SideRows, RuleRows, NeverRows, StoreRows, JumpRows, StrangeRows}
+use Rattle.distill_rules.specs.Rows.{SideRows, RuleRows, NeverRows, StoreRows, JumpRows, StrangeRows, FenceRows}
 
 pub sides : SideRows
 sides = record {
@@ -36,3 +36,7 @@ jump = record { leads = refl; masks = refl }
 pub strange : StrangeRows
 unfolding analysed solved
 strange = record { cut = refl; uncut_leads = refl; leads = refl; masks = refl }
+
+pub fence : FenceRows
+unfolding analysed solved
+fence = record { masks = refl }

@@ -147,3 +147,13 @@ pub record StrangeRows : Type 0 where
       ≡ site 0x00010000 0x00000063 (0x00010000 ∷ []) ∷ site 0x00010004 0x0020006F [] ∷ site 0x00020000 0x00000000 [] ∷ []
   pub masks : solved (points strange_cuts (0x00010000 ∷ []) (graph (program_word strange) strange_rows strange_cuts))
       ≡ mask 0x00010000 0 0 false ∷ mask 0x00010004 0 0 true ∷ mask 0x00020000 0 0 true ∷ []
+
+-- ---- a FENCE does nothing, so it is not kept
+
+abbrev pub fencing : Loaded
+fencing = frame (0x0FF0000F ∷ 0x00000073 ∷ [])
+
+pub record FenceRows : Type 0 where
+  pub masks : solved (points (record { cut = []; dead = [] }) (0x00010000 ∷ [])
+      (graph (program_word fencing) (row 0x00010000 1 0 false ∷ row 0x00010004 1 0 false ∷ []) (record { cut = []; dead = [] })))
+      ≡ mask 0x00010000 0 0 false ∷ mask 0x00010004 0 0 true ∷ []

@@ -6,7 +6,7 @@
 #![tactic(auto)]
 
 ghost use Rattle.distill_rules.specs.Solution.{Settles, IsLeast, AreMasks};
-ghost use Rattle.distill_rules.specs.Rows.{SideRows, RuleRows, NeverRows, StoreRows, JumpRows, StrangeRows};
+ghost use Rattle.distill_rules.specs.Rows.{SideRows, RuleRows, NeverRows, StoreRows, JumpRows, StrangeRows, FenceRows};
 
 /// Whether an instruction is kept.
 #[derive(Clone, Copy, Debug, PartialEq, Eq)]
@@ -50,4 +50,5 @@ pub fn rows_are_worked()
     ensures store { StoreRows }
     ensures jump { JumpRows }
     ensures strange { StrangeRows }
+    ensures fence { FenceRows }
 {}

@@ -3,7 +3,7 @@ use Rattle.std.proofs.Common.{refl}
 use Rattle.distill_rules.specs.Analysed.{analysed}
 use Rattle.distill_rules.specs.Rounds.{solved}
 use Rattle.layout_rules.specs.Images.{distilled}
-use Rattle.layout_rules.specs.Rows.{CountRows, AimRows, NeverRows, StoreRows, InputRows, BareRows}
+use Rattle.layout_rules.specs.Rows.{CountRows, AimRows, HotRows, NeverRows, StoreRows, InputRows, BareRows}
 
 pub counts : CountRows
 counts = record { worked = refl; greatest = refl; least = refl; one_arrival_a_step = refl; no_arrival = refl }
@@ -17,9 +17,14 @@ aims = record {
   back = refl;
   jump_ahead = refl;
   linked = refl;
+  jump_to_itself = refl;
   around = refl;
   no_jump = refl;
 }
+
+pub hot : HotRows
+unfolding analysed
+hot = record { exactly = refl; too_seldom = refl }
 
 pub never : NeverRows
 unfolding analysed solved distilled

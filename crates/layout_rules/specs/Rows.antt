@@ -7,9 +7,9 @@ use Rattle.dist_image.specs.declared.image.Slot.TheVariants.{Exec, Fork}
 use Rattle.dist_image.specs.Image.{Cut, Code, Within, Span, Distilled, nothing_known}
 use Rattle.profile_data.specs.Profile.{Tally, Profiled}
 use Rattle.fitting.specs.Rows.{anchor, never_true, never_image, store_for_write, store_image, always_taken, taken_image}
-use Rattle.distill_rules.specs.Rows.{row, never_rows, store_rows}
+use Rattle.distill_rules.specs.Rows.{row, never_rows, never_cuts, store_rows}
 use Rattle.layout_rules.specs.declared.Options.{Options}
-use Rattle.layout_rules.specs.Places.{count_by, aim_by}
+use Rattle.layout_rules.specs.Places.{count_by, aim_by, begun}
 use Rattle.layout_rules.specs.Images.{distilled}
 
 pub record CountRows : Type 0 where
@@ -29,9 +29,15 @@ pub record AimRows : Type 0 where
   pub back : aim_by None 0x00010010 (meaning 0xFF5FF06F) ≡ Some 0x00010004
   pub jump_ahead : aim_by None 0x00010014 (meaning 0x0080006F) ≡ None
   pub linked : aim_by None 0x00010014 (meaning 0x008000EF) ≡ Some 0x0001001c
+  pub jump_to_itself : aim_by None 0x00010000 (meaning 0x0000006F) ≡ Some 0x00010000
   -- a jump back past the address 0 goes to a greater address
   pub around : aim_by None 0x00000004 (meaning 0xFF5FF06F) ≡ None
   pub no_jump : aim_by None 0x00010000 (meaning 0x00000073) ≡ None
+
+-- the first word of the loop is executed ten times
+pub record HotRows : Type 0 where
+  pub exactly : begun (program_word never_true) never_rows never_cuts 0x00010000 10 ≡ 0x00010000 ∷ 0x00010004 ∷ []
+  pub too_seldom : begun (program_word never_true) never_rows never_cuts 0x00010000 11 ≡ 0x00010000 ∷ []
 
 abbrev pub options : ℕ → ℕ → ℕ → ℕ → Options
 options rare hot goal limit = record { rare = rare; hot = hot; goal = goal; limit = limit }

@@ -5,7 +5,7 @@
 //! `fork_layout` and `distiller` compute what they say.
 #![tactic(auto)]
 
-ghost use Rattle.layout_rules.specs.Rows.{CountRows, AimRows, NeverRows, StoreRows, InputRows, BareRows};
+ghost use Rattle.layout_rules.specs.Rows.{CountRows, AimRows, HotRows, NeverRows, StoreRows, InputRows, BareRows};
 
 /// What a distiller is asked for.
 #[derive(Clone, Copy, Debug, PartialEq, Eq)]
@@ -44,6 +44,7 @@ pub struct Plot {
 pub fn rows_are_worked()
     ensures counts { CountRows }
     ensures aims { AimRows }
+    ensures hot { HotRows }
     ensures never { NeverRows }
     ensures store { StoreRows }
     ensures input { InputRows }

@@ -4,7 +4,7 @@ use Rattle.rv_run.specs.Calls.{call, read}
 use Rattle.rv_run.specs.Machine.{moved}
 use Rattle.cells.specs.Seen.{given_values}
 use Rattle.profile_laws.specs.Tally.{places, kept}
-use Rattle.profile_laws.specs.Rows.{RewritingRow, NeverTrueRow}
+use Rattle.profile_laws.specs.Rows.{RewritingRow, NeverTrueRow, AsideRow}
 
 pub rewriting_row : RewritingRow
 unfolding call read moved given_values places kept
@@ -13,3 +13,7 @@ rewriting_row = record { whole = refl }
 pub never_true_row : NeverTrueRow
 unfolding call read moved given_values places kept
 never_true_row = record { whole = refl }
+
+pub aside_row : AsideRow
+unfolding call read moved given_values places kept
+aside_row = record { branch = refl; jump = refl }

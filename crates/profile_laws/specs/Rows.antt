@@ -1,5 +1,6 @@
 -- Worked rows: the profiles of small programs.
 use Rattle.std.specs.Prelude.{◌≡◌, ℕ, true, false, [], ◌∷◌}
+use Rattle.rv_run.specs.Programs.{frame}
 use Rattle.rv_run.specs.Start.{start}
 use Rattle.profile_data.specs.Profile.{Tally}
 use Rattle.fitting.specs.Rows.{never_true, rewriting}
@@ -27,3 +28,8 @@ pub record RewritingRow : Type 0 where
         row 0x00010000 1 0 ∷ row 0x00010004 1 0 ∷ record (row 0x00010008 1 0) { read = true } ∷ row 0x0001000c 1 0
         ∷ record (row 0x00010010 1 0) { changed = true } ∷ row 0x00010014 1 0 ∷ [];
   }
+
+-- a branch that is taken to a pc that is no multiple of 4 ends the run, and counts as taken. A jump by a register to such a pc has no target
+pub record AsideRow : Type 0 where
+  pub branch : profile_of (start (frame (0x00000163 ∷ [])) []) 1 ≡ record { steps = 1; ended = true; rows = row 0x00010000 1 1 ∷ [] }
+  pub jump : profile_of (start (frame (0x00200067 ∷ [])) []) 1 ≡ record { steps = 1; ended = true; rows = row 0x00010000 1 0 ∷ [] }

@@ -5,7 +5,7 @@
 #![tactic(auto)]
 
 ghost use Rattle.profile_laws.specs.Laws.{TallyIsProfile, ProfileIsOne, TallyIsValid, WideStays, StepsAreTaken};
-ghost use Rattle.profile_laws.specs.Rows.{RewritingRow, NeverTrueRow};
+ghost use Rattle.profile_laws.specs.Rows.{RewritingRow, NeverTrueRow, AsideRow};
 
 /// The tally is the profile of the run, and no other profile is.
 pub fn tally_is_profile()
@@ -29,4 +29,5 @@ pub fn steps_are_taken()
 pub fn rows_are_worked()
     ensures rewriting { RewritingRow }
     ensures never_true { NeverTrueRow }
+    ensures aside { AsideRow }
 {}
