@@ -4,6 +4,8 @@
 #[cfg(test)]
 mod distilled;
 #[cfg(test)]
+mod faults;
+#[cfg(test)]
 mod profiles;
 #[cfg(test)]
 mod replays;
