@@ -36,6 +36,12 @@ many rounds of masks as there are instructions.  With --callgrind it counts the 
 instructions of `run`, `profile` and `check` for each guest instruction instead, and those of
 `run` and `profile` for loops that do hardly anything but load, or store, bytes, halves or
 words that a store wrote, and words across two words of memory.
+
+--hostile gives large files and programs that do little else than look up: `check` beside an
+image with many notes, anchors and dead stores, each on a page of its own; `check` of a jump
+by a register with many targets; `profile` of a jump whose targets come in descending order.
+It prints processor seconds and the greatest resident set, beside those of `run` and the
+length of the image's file.
 """
 import argparse
 import hashlib
@@ -340,6 +346,77 @@ def show_distilling_instructions(binary, programs):
                 print(f"{f'{touch.__name__} {name}':20}{run:10.1f}{profiled:14.1f}{profiled / run:14.2f}", flush=True)
 
 
+def image_of(anchors, notes, assumptions, limit=64):
+    """An image with one Fork slot for each anchor, and the numbers of each assumption."""
+    slots = [number for k in range(len(anchors)) for number in (2, k, 0)]
+    counted = [len(anchors), len(anchors), len(notes), len(assumptions)]
+    tables = [number for k, pc in enumerate(anchors) for number in (pc, k, 1)]
+    noted = [number for pc in notes for number in (pc, 0, 0, 0)]
+    listed = [number for one in assumptions for number in one]
+    return numbers(0x5053534D, 1, limit, *counted, *slots, *tables, *noted, *listed)
+
+
+def wide_image(count):
+    """So many notes and anchors, and twice as many dead stores, each on a page of its own."""
+    pages = [0x1000 * k for k in range(0x100, 0x100 + count)]
+    dead = [(2, 0x1000 * k + 8, 0, 0) for k in range(0x100, 0x100 + 2 * count)]
+    return image_of(pages, pages, [*dead, (3, 0, 0, 0), (4, 0, 0, 0), (5, 0, 0, 0)])
+
+
+# AUIPC x5, 0 and a jump back to it by x5
+RETURNING = (0x00000297, 0x00028067)
+
+
+def targets_image(count):
+    """The jump of that program has so many targets, and goes to the last."""
+    targets = [0x10000 - 4 * k for k in range(min(count, 0x4000))][::-1]
+    more = [0x10000 + 4 * k for k in range(1, count - len(targets) + 1)]
+    listed = [*targets, *more]
+    return image_of([], [0x10000, 0x10004], [(1, 0x10004, 0, len(listed), *listed)]), len(listed)
+
+
+def descending(count):
+    """A jump that goes to so many words, from the last to the first; each returns. A page holds 1,024 of them."""
+    first, size = 0x01000000, 4 * count
+    back = 0x63 | 1 << 12 | 7 << 20 | 5 << 15 | (-8 >> 1 & 15) << 8 | 0x3F << 25 | 1 << 7 | 1 << 31
+    words = [first + size | 0x2B7, first | 0x3B7, 0xFFC28293, 0x00028367, back, 0x00000513, 0x05D00893, 0x73]
+    here, behind = 4 * len(words), 116 + 4 * len(words)
+    header = numbers(0x464C457F, 0x00010101, 0, 0, 0x00F30002, 1, 0x10000, 52, 0, 0, 0x00200034, 2, 0)
+    parts = numbers(1, 116, 0x10000, 0x10000, here, here, 5, 4, 1, behind, first, first, size, size, 5, 4)
+    return header + parts + numbers(*words) + numbers(0x00030067) * count
+
+
+def measured(words):
+    """The processor seconds of a command, its greatest resident set in MB, and its status."""
+    child = subprocess.Popen(words, stdin=subprocess.DEVNULL, stdout=subprocess.DEVNULL, stderr=subprocess.DEVNULL)
+    _, status, used = os.wait4(child.pid, 0)
+    child.returncode = os.waitstatus_to_exitcode(status)
+    return used.ru_utime + used.ru_stime, used.ru_maxrss / 1024, child.returncode
+
+
+def show_hostile(binary):
+    print(f"processor seconds and greatest resident set, MB (load {os.getloadavg()[0]:.1f})")
+    with tempfile.TemporaryDirectory() as folder:
+        file, image = (os.path.join(folder, name) for name in ("elf", "image"))
+
+        def show(name, words):
+            seconds, resident, status = measured([binary, *words])
+            print(f"{name:44}{seconds:10.2f}{resident:10.1f}   status {status}", flush=True)
+
+        Path(file).write_bytes(program_of(LAST))
+        for count in (1_000, 10_000, 100_000):
+            Path(image).write_bytes(wide_image(count))
+            show(f"check, {count} notes, {os.path.getsize(image) / 2 ** 20:.1f} MB", ["check", file, image])
+        Path(file).write_bytes(program_of(RETURNING))
+        for count in (100, 16_384, 50_000):
+            Path(image).write_bytes(targets_image(count)[0])
+            show(f"check, a jump with {count} targets", ["check", file, image, "--budget", "400000"])
+        for count in (51_200, 102_400, 399_360):
+            Path(file).write_bytes(descending(count))
+            show(f"run, {count} targets, descending", ["run", file])
+            show(f"profile, {count} targets, descending", ["profile", file, image])
+
+
 def main():
     parser = argparse.ArgumentParser(
         description=__doc__, formatter_class=argparse.RawDescriptionHelpFormatter)
@@ -351,6 +428,7 @@ def main():
     parser.add_argument("--rounds", action="store_true", help="time runs beside an image alone")
     parser.add_argument("--distilling", action="store_true",
                         help="time profiles, distilling and checks alone")
+    parser.add_argument("--hostile", action="store_true", help="time large files and wide programs alone")
     words = parser.parse_args()
     if words.runs < 1:
         parser.error("--runs has to be at least 1")
@@ -358,6 +436,8 @@ def main():
         parser.error(f"{words.binary} is no program")
     if words.replay:
         return show_replays(os.path.abspath(words.binary), words.runs)
+    if words.hostile:
+        return show_hostile(os.path.abspath(words.binary))
     if words.rounds:
         return show_rounds(os.path.abspath(words.binary), words.runs)
     programs = [Program(name) for name in PROGRAMS]

@@ -87,10 +87,10 @@ module _ (store : Reads) (r : ReplayCommand) (out : Puts) (some : 0 < r.slaves) 
   wanting_done (inr (inr (inr (inl (p, image, list, h, hi, he, (name, named, x)))))) = x
   wanting_done (inr (inr (inr (inr is)))) = cc
 
-  pub replay_is_unsquashed : ReplayCause store r out Done → ReplayIsUnsquashed store.told r out
-  replay_is_unsquashed (inl h) = absurd (wanting_done h.0)
-  replay_is_unsquashed (inr (p, i, image, list, files, put, of_run)) =
-      record {
+  pub replay_is_unsquashed : (a : Answer) → ReplayCause store r out a → ReplayIsUnsquashed store.told r out a
+  replay_is_unsquashed a (inl h) = inl ((λ (done : a ≡ Done). wanting_done (subst (Wanting store r) done h.0)), h.1)
+  replay_is_unsquashed a (inr (p, i, image, list, files, put, of_run)) =
+      inr (record {
         p = p;
         i = i;
         image = image;
@@ -98,7 +98,7 @@ module _ (store : Reads) (r : ReplayCommand) (out : Puts) (some : 0 < r.slaves) 
         files = files;
         put = put;
         unsquashed = are_unsquashed (start_from p i) image r.slaves files.has_image.1.is_image some (written_out list);
-      }
+      })
 
 -- ---- the report of a run
 

@@ -1,5 +1,5 @@
 -- That nothing is squashed with an image that fits, as far as the run meets its list.
-use Rattle.std.specs.Prelude.{◌≡◌, ℕ, List, take, slice_get, Option, Some, None}
+use Rattle.std.specs.Prelude.{◌≡◌, ℕ, ◌⊎◌, List, take, slice_get, Option, Some, None}
 use Rattle.outside.specs.Files.{Files}
 use Rattle.cells.specs.Run.{State, EndsWithin}
 use Rattle.command_line.specs.Command.{RunCommand, ReplayCommand}
@@ -13,7 +13,9 @@ use Rattle.event_list.specs.Reading.{written_out}
 use Rattle.fitting.specs.Fits.{Fits}
 use Rattle.fitting.specs.Fails.{state_at, program, Meets, Reaches}
 use Rattle.report.specs.Events.{summary_text}
-use Rattle.mssp_tool.specs.Told.{Puts, Got, Written}
+use Rattle.mssp_tool.specs.declared.answer.Answer.{Answer}
+use Rattle.mssp_tool.specs.declared.answer.Answer.TheVariants.{Done}
+use Rattle.mssp_tool.specs.Told.{Puts, GotNothing, Delivered, Written}
 use Rattle.mssp_tool.specs.Run.{AreRunFiles, start_from, world_from}
 use Rattle.mssp_tool.specs.Replay.{AreFiles, replay_bytes}
 
@@ -28,15 +30,20 @@ IsUnsquashed start image m effect = Fits (program start) image → (n : ℕ) →
 abbrev pub AreUnsquashed : State → Distilled → World → List Event → Type 0
 AreUnsquashed start image w es = (k : ℕ) (effect : Effect) → slice_get (effects w es (fresh w)) k ≡ Some effect → IsUnsquashed start image (run w (take k es) (fresh w)) effect
 
--- the files of a replay are these, its text was put, a line for what each event did, and that was unsquashed
-pub record ReplayIsUnsquashed (told : Option Files) (r : ReplayCommand) (out : Puts) : Type 0 where
+-- the files of a replay are these, its text was put, or the first of it where the sink failed or there was no memory, with a line for what each event did; and that was
+-- unsquashed
+pub record PutsUnsquashed (told : Option Files) (r : ReplayCommand) (out : Puts) (a : Answer) : Type 0 where
   pub p : List ℕ
   pub i : List ℕ
   pub image : Distilled
   pub list : List (ℕ × Event)
   pub files : AreFiles told r p image list i
-  pub put : Got out (replay_bytes (world_from p i image r.slaves) (written_out list))
+  pub put : Delivered out (replay_bytes (world_from p i image r.slaves) (written_out list)) a
   pub unsquashed : AreUnsquashed (start_from p i) image (world_from p i image r.slaves) (written_out list)
+
+-- so is all that a replay puts, whatever it comes to
+abbrev pub ReplayIsUnsquashed : Option Files → ReplayCommand → Puts → Answer → Type 0
+ReplayIsUnsquashed told r out a = ((a ≡ Done → ⊥) × GotNothing out) ⊎ PutsUnsquashed told r out a
 
 -- ---- the report of a run
 

@@ -13,7 +13,7 @@ use Rattle.dist_image.specs.Image.{Distilled, IsImage}
 use Rattle.image_world.specs.World.{world}
 use Rattle.image_world.proofs.Known.{known}
 use Rattle.fitting.specs.Fits.{Fits}
-use Rattle.fitting.specs.Fails.{program, Meets}
+use Rattle.fitting.specs.Fails.{state_at, program, Meets}
 use Rattle.fitting_laws.specs.Laws.{TracksRun}
 use Rattle.fitting_laws.proofs.Safe.{next_safe}
 use Rattle.schedules.specs.Schedule.{after}

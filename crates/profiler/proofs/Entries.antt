@@ -41,7 +41,7 @@ pushed m n pc t u keyed is named new added =
 -- ---- the row at an index
 
 -- a row's pc is no row's after it
-later : (pc : ℕ) (ts : List Tally) (j : ℕ) (t : Tally) → AllByRecursion (λ q. nat_eq pc q ≡ false) (map pc_of ts) → slice_get ts j ≡ Some t → nat_eq pc t.pc ≡ false
+pub later : (pc : ℕ) (ts : List Tally) (j : ℕ) (t : Tally) → AllByRecursion (λ q. nat_eq pc q ≡ false) (map pc_of ts) → slice_get ts j ≡ Some t → nat_eq pc t.pc ≡ false
 later pc [] j t apart at = absurd cc
 later pc (u ∷ us) zero t apart at = ap (λ (v : Tally). nat_eq pc v.pc) (same_Some t u (sym at)) ∙ apart.0
 later pc (u ∷ us) (suc j) t apart at = later pc us j t apart.1 at
@@ -105,7 +105,7 @@ module _ {S : Type 0} (m : IndexMap ℕ Tally S) (i : ℕ) (t w : Tally) (at : s
 pub unwritten_at : {S : Type 0} (m : IndexMap ℕ Tally S) (i pc : ℕ) (f : Tally → Tally) → slice_get (values m) i ≡ None → slice_get (values m) i ≡ row_at (values m) pc → values m ≡ updated pc f (values m)
 unwritten_at m i pc f none same = sym (rows_unset pc f (values m) (sym same ∙ none))
 
-value_at : (es : List (ℕ × Tally)) (i k : ℕ) (t : Tally) → slice_get es i ≡ Some (k, t) → slice_get (values_of es) i ≡ Some t
+pub value_at : (es : List (ℕ × Tally)) (i k : ℕ) (t : Tally) → slice_get es i ≡ Some (k, t) → slice_get (values_of es) i ≡ Some t
 value_at [] i k t at = absurd cc
 value_at (e ∷ es) zero k t at = ap (λ (x : ℕ × Tally). Some x.1) (same_Some e (k, t) at)
 value_at (e ∷ es) (suc i) k t at = value_at es i k t at

@@ -1,6 +1,7 @@
 pub mod Entries
 pub mod Results
-pub mod Inserted
 pub mod ReadBack
 pub mod Counting
 pub mod Made
+pub mod SetPlaced
+pub mod Copied

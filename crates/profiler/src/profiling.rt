@@ -2,7 +2,7 @@
 
 ghost use Rattle.std.specs.Prelude.{◌≡◌, ℕ, ◌+◌, ◌-◌, ◌<◌, ◌≤◌, ◌^◌, OnOk, IfOk, IfErr, IsNone};
 ghost use Rattle.cells.specs.Cells.{IsPc};
-ghost use Rattle.cells.specs.Bytes.{number};
+ghost use Rattle.cells.specs.Bytes.{word_of};
 ghost use Rattle.rv_run.specs.Calls.{step as next_state};
 ghost use Rattle.indexmap.specs.IndexMap.{values};
 ghost use Rattle.elf_reader.specs.Executable.{IsProgram};
@@ -18,6 +18,7 @@ ghost use Rattle.profiler.specs.Tally.{kept_of, IsTally};
 ghost use Rattle.profiler.specs.Counted.{IsCounted};
 
 use crate::error::ProfilingErr;
+use crate::rows::close;
 use crate::tally::Tally;
 use crate::visit::look;
 use elf_reader::Program;
@@ -51,9 +52,9 @@ fn step<M: Memory>(
     ensures pc { OnOk result (IsPc machine.new.arch.pc) }
     ensures tally { OnOk result (IsTally tally.new) }
     ensures kept { OnOk result (kept_of M.at tally.new
-        ≡ after_visit (visit (number 4 machine.old.arch.pc (M.at program.old)) (state_of M.at machine.old) (next_state (state_of M.at machine.old)).arch.pc) (kept_of M.at tally.old)) }
+        ≡ after_visit (visit (word_of (M.at program.old) machine.old.arch.pc) (state_of M.at machine.old) (next_state (state_of M.at machine.old)).arch.pc) (kept_of M.at tally.old)) }
     ensures wide { IfErr result (λ e. e ≡ Wide → IsWide
-        (rows_after (visit (number 4 machine.old.arch.pc (M.at program.old)) (state_of M.at machine.old) (next_state (state_of M.at machine.old)).arch.pc) (kept_of M.at tally.old))) }
+        (rows_after (visit (word_of (M.at program.old) machine.old.arch.pc) (state_of M.at machine.old) (next_state (state_of M.at machine.old)).arch.pc) (kept_of M.at tally.old))) }
 {
     let visit = look(machine, program);
     machine.one(alloc)?;
@@ -102,7 +103,8 @@ fn profile_on<M: Memory>(
     let mut program = machine.arch.mem.snapshot(alloc)?;
     let mut tally = Tally::new(alloc)?;
     count_all(alloc, &mut machine, &mut program, &mut tally, budget)?;
-    Ok(Profile::new(machine.position, machine.end.is_some(), tally.table.rows))
+    let rows = close(alloc, &tally.table.rows)?;
+    Ok(Profile::new(machine.position, machine.end.is_some(), rows))
 }
 
 /// The profile of a program's run with an input, over as many steps as the budget has, at most

@@ -1,7 +1,6 @@
 //! Single rows of a profile while it is made.
 
-ghost use Rattle.std.specs.Prelude.{◌≡◌, ℕ, ◌≤◌, ◌+◌, ◌++◌, ◌∷◌, [], false, length, IfOk, IfErr, OnOk, is_some, slice_get};
-ghost use Rattle.std.specs.List.Sorted.{IsStrictlyIncreasing};
+ghost use Rattle.std.specs.Prelude.{◌≡◌, ℕ, ◌<◌, ◌≤◌, ◌+◌, ◌++◌, ◌∷◌, [], false, length, take, IfOk, IfErr, OnOk, is_some, slice_get};
 ghost use Rattle.indexmap.specs.IndexMap.{values};
 ghost use Rattle.profile_data.specs.Profile.{target_count, row_at};
 ghost use Rattle.profile_data.specs.Keyed.{IsKeyed};
@@ -15,15 +14,43 @@ use crate::visit::Visit;
 use indexmap::IndexMap;
 use profile_data::Row;
 use std::alloc::{AllocError, Global};
+use std::collections::BTreeSet;
+use std::marker::Model;
 
-fn set_read(row: &mut Row)
+/// A row while it is made. Its targets are a set, so that each new one costs a look-up.
+#[derive(Drop)]
+pub(crate) struct Counts {
+    pc: u32,
+    executed: u64,
+    taken: u64,
+    read: bool,
+    changed: bool,
+    targets: BTreeSet<u32>,
+}
+
+impl Model for Counts {
+    ghost use Rattle.profile_data.specs.Profile.{Tally};
+
+    ghost Value = { Tally };
+
+    ghost view = { λ row. record {
+      pc = row.pc;
+      executed = row.executed;
+      taken = row.taken;
+      read = row.read;
+      changed = row.changed;
+      targets = row.targets.keys;
+    } };
+}
+
+fn set_read(row: &mut Counts)
     ensures { row.new ≡ as_read row.old }
 {
     row.read = true;
 }
 
 /// Notes that what the store of a row put was read.
-pub(crate) fn mark_row(rows: &mut IndexMap<u32, Row>, at: usize)
+pub(crate) fn mark_row(rows: &mut IndexMap<u32, Counts>, at: usize)
     requires { IsKeyed rows.old }
     ensures rows { (pc : ℕ) → slice_get (values rows.old) at ≡ row_at (values rows.old) pc → values rows.new ≡ updated pc as_read (values rows.old) }
     ensures keyed { IsKeyed rows.new }
@@ -35,27 +62,20 @@ pub(crate) fn mark_row(rows: &mut IndexMap<u32, Row>, at: usize)
 
 /// Puts a number in its place, unless it is there, and answers how many numbers that added.
 #[inline(never)]
-fn place(targets: &mut Vec<u32>, to: u32) -> Result<usize, AllocError>
-    requires { IsStrictlyIncreasing targets.old.items }
-    ensures placed { OnOk result (targets.new.items ≡ placed to targets.old.items) }
+fn place(targets: &mut BTreeSet<u32>, to: u32) -> Result<usize, AllocError>
+    ensures placed { OnOk result (targets.new.keys ≡ placed to targets.old.keys) }
     ensures few { IfOk result (λ n. n ≤ 1) }
-    ensures added { IfOk result (λ n. length targets.new.items ≡ length targets.old.items + n) }
+    ensures added { IfOk result (λ n. length targets.new.keys ≡ length targets.old.keys + n) }
 {
-    match targets.binary_search(&to) {
-        Ok(_) => Ok(0),
-        Err(at) => {
-            targets.insert(at, to)?;
-            Ok(1)
-        }
-    }
+    let added = targets.insert(to)?;
+    Ok(usize::from(added))
 }
 
 #[inline(always)]
-fn place_target(targets: &mut Vec<u32>, target: Option<u32>) -> Result<usize, AllocError>
-    requires { IsStrictlyIncreasing targets.old.items }
-    ensures placed { OnOk result (targets.new.items ≡ with_target target targets.old.items) }
+fn place_target(targets: &mut BTreeSet<u32>, target: Option<u32>) -> Result<usize, AllocError>
+    ensures placed { OnOk result (targets.new.keys ≡ with_target target targets.old.keys) }
     ensures few { IfOk result (λ n. n ≤ 1) }
-    ensures added { IfOk result (λ n. length targets.new.items ≡ length targets.old.items + n) }
+    ensures added { IfOk result (λ n. length targets.new.keys ≡ length targets.old.keys + n) }
 {
     match target {
         Some(to) => place(targets, to),
@@ -65,7 +85,7 @@ fn place_target(targets: &mut Vec<u32>, target: Option<u32>) -> Result<usize, Al
 
 /// Counts a position in its row, and answers how many targets that added.
 #[inline(always)]
-fn count_in(row: &mut Row, visit: &Visit, target: Option<u32>) -> Result<usize, AllocError>
+fn count_in(row: &mut Counts, visit: &Visit, target: Option<u32>) -> Result<usize, AllocError>
     requires { HasRoom row.old }
     ensures row { OnOk result (row.new ≡ counted (visit_of visit.now target) row.old) }
     ensures few { IfOk result (λ n. n ≤ 1) }
@@ -81,7 +101,7 @@ fn count_in(row: &mut Row, visit: &Visit, target: Option<u32>) -> Result<usize, 
 /// Counts a position in the row at an index, and answers how many targets that added.
 #[inline(always)]
 pub(crate) fn count_row(
-    rows: &mut IndexMap<u32, Row>,
+    rows: &mut IndexMap<u32, Counts>,
     at: usize,
     visit: &Visit,
     target: Option<u32>,
@@ -100,24 +120,98 @@ pub(crate) fn count_row(
 }
 
 /// The row of an address that was not executed.
-fn fresh(alloc: Global, pc: u32) -> Row
+fn fresh(alloc: Global, pc: u32) -> Counts
     ensures { result ≡ fresh pc }
 {
-    Row {
+    Counts {
         pc,
         executed: 0,
         taken: 0,
         read: false,
         changed: false,
-        targets: Vec::new(alloc),
+        targets: BTreeSet::new(alloc),
     }
+}
+
+/// The numbers of a set, ascending.
+fn listed(alloc: Global, targets: &BTreeSet<u32>) -> Result<Vec<u32>, AllocError>
+    ensures { IfOk result (λ v. v.items ≡ targets.now.keys) }
+{
+    let mut list = Vec::new(alloc);
+    for to in targets {
+        list.push(*to)?;
+    }
+    Ok(list)
+}
+
+/// The row that was counted.
+fn row_of(alloc: Global, counts: &Counts) -> Result<Row, AllocError>
+    ensures { IfOk result (λ row. row ≡ counts.now) }
+{
+    Ok(Row {
+        pc: counts.pc,
+        executed: counts.executed,
+        taken: counts.taken,
+        read: counts.read,
+        changed: counts.changed,
+        targets: listed(alloc, &counts.targets)?,
+    })
+}
+
+/// Puts the row that was counted last, where there is no row of its address.
+fn close_in(alloc: Global, rows: &mut IndexMap<u32, Row>, counts: &Counts) -> Result<(), AllocError>
+    requires keyed { IsKeyed rows.old }
+    requires new { is_some (row_at (values rows.old) counts.now.pc) ≡ false }
+    ensures rows { OnOk result (values rows.new ≡ values rows.old ++ counts.now ∷ []) }
+    ensures keyed { OnOk result (IsKeyed rows.new) }
+{
+    let row = row_of(alloc, counts)?;
+    rows.insert(counts.pc, row)?;
+    Ok(())
+}
+
+/// Puts the row that was counted at an index last, where those before it were put.
+fn close_at(
+    alloc: Global,
+    rows: &mut IndexMap<u32, Row>,
+    from: &IndexMap<u32, Counts>,
+    i: usize,
+) -> Result<(), AllocError>
+    requires from { IsKeyed from.now }
+    requires keyed { IsKeyed rows.old }
+    requires closed { values rows.old ≡ take i (values from.now) }
+    requires within { i < length (values from.now) }
+    ensures rows { OnOk result (values rows.new ≡ take (i + 1) (values from.now)) }
+    ensures keyed { OnOk result (IsKeyed rows.new) }
+{
+    let _count = from.len();
+    match from.get_index(i) {
+        Some((_, counts)) => close_in(alloc, rows, counts),
+        None => Err(AllocError),
+    }
+}
+
+/// The rows that were counted.
+pub(crate) fn close(
+    alloc: Global,
+    from: &IndexMap<u32, Counts>,
+) -> Result<IndexMap<u32, Row>, AllocError>
+    requires { IsKeyed from.now }
+    ensures rows { IfOk result (λ rows. values rows ≡ values from.now) }
+    ensures keyed { IfOk result IsKeyed }
+{
+    let mut rows = IndexMap::new(alloc);
+    for i in 0..from.len() {
+        close_at(alloc, &mut rows, from, i)?;
+    }
+    Ok(rows)
 }
 
 /// Counts the first position of an address, and answers how many targets that added.
 #[inline(never)]
 pub(crate) fn count_new(
     alloc: Global,
-    rows: &mut IndexMap<u32, Row>,
+    rows: &mut IndexMap<u32, Counts>,
     visit: &Visit,
     target: Option<u32>,
 ) -> Result<usize, ProfilingErr>

@@ -11,10 +11,9 @@ ghost use Rattle.profiler.specs.Visits.{visit_of};
 ghost use Rattle.profiler.specs.Rows.{EachHasRoom};
 
 use crate::error::ProfilingErr;
-use crate::rows::{count_new, count_row, mark_row};
+use crate::rows::{Counts, count_new, count_row, mark_row};
 use crate::visit::Visit;
 use indexmap::IndexMap;
-use profile_data::Row;
 use std::alloc::Global;
 
 /// How many places `near` has.
@@ -23,7 +22,7 @@ const NEAR: usize = 1024;
 /// The rows so far, under their addresses.
 #[derive(Drop)]
 pub(crate) struct Table {
-    pub rows: IndexMap<u32, Row>,
+    pub rows: IndexMap<u32, Counts>,
     /// By the low bits of an address, the index of the row that was found last for one with these bits.
     /// Most rows are found there again; the key tells whether it is the row.
     near: [usize; NEAR],

@@ -2,7 +2,7 @@
 
 ghost use Rattle.std.specs.Prelude.{◌≡◌, ℕ, ◌-◌, ◌<◌, ◌^◌, ◌&&◌};
 ghost use Rattle.cells.specs.Cells.{value};
-ghost use Rattle.cells.specs.Bytes.{number};
+ghost use Rattle.cells.specs.Bytes.{word_of};
 ghost use Rattle.rv_word.specs.Spelling.{IsWellFormed};
 ghost use Rattle.rv_run.specs.Effect.{effect_at};
 ghost use Rattle.rv_run.specs.Machine.{is_next};
@@ -54,7 +54,7 @@ pub(crate) fn look<M: Memory>(machine: &mut Machine<M>, program: &mut M) -> Visi
     ensures end { machine.new.end ≡ machine.old.end }
     ensures position { machine.new.position ≡ machine.old.position }
     ensures program { M.at program.new ≡ M.at program.old }
-    ensures visit { (next : ℕ) → visit_of result (target_after result.jumps next) ≡ visit (number 4 machine.old.arch.pc (M.at program.old)) (state_of M.at machine.old) next }
+    ensures visit { (next : ℕ) → visit_of result (target_after result.jumps next) ≡ visit (word_of (M.at program.old) machine.old.arch.pc) (state_of M.at machine.old) next }
     ensures claim { result.claim < 2 ^ 32 - 1 }
 {
     let pc = machine.arch.pc;

@@ -98,6 +98,12 @@ pub static TOO_HIGH_BREAK: [u32; 7] = [
     0x0D600893, 0x70000537, 0x00150513, 0x00000073, 0x00C55513, 0x05D00893, 0x00000073,
 ];
 
+/// Stores a byte that nothing loads, and that a `write` call puts.
+pub static STORE_FOR_WRITE: [u32; 10] = [
+    0x000205B7, 0x04100293, 0x00558023, 0x00100513, 0x00100613, 0x04000893, 0x00000073, 0x00000513,
+    0x05D00893, 0x00000073,
+];
+
 /// A file of three headers, as words: one part, which exits with 7, between headers of two other
 /// types, of which the first tells of bytes past the file's end.
 pub static THREE_HEADERS: [u32; 40] = [

@@ -130,3 +130,27 @@ fn an_input_that_breaks_the_list_drops_a_task(rt: HostRuntime) -> Result<(), Fai
     assert_eq!(rt; left.out.as_slice(), want.as_slice());
     Ok(())
 }
+
+#[test]
+fn a_byte_that_a_write_call_alone_reads_is_put_beside_an_image(rt: HostRuntime) -> Result<(), Fail> {
+    let alloc = rt.alloc();
+    let over = |image: Vec<u8>| -> Result<Files, AllocError> {
+        Ok(Files {
+            program: frame(alloc, &STORE_FOR_WRITE)?,
+            image,
+            events: Vec::new(alloc),
+            input: Vec::new(alloc),
+        })
+    };
+    let profile = perform_over(alloc, &["profile", "p", "r"], over(Vec::new(alloc))?, SURE)?;
+    let image = perform_over(alloc, &["distill", "p", "m", "r"], over(profile.report)?, SURE)?.report;
+    let shown = perform_over(alloc, &["show", "m"], over(image.clone()?)?, SURE)?;
+    let list: &[u8] = b"\ndead 00010008\ncode\nwithin\nspan\n";
+    assert!(rt; shown.out.ends_with(list));
+    let words = ["run", "p", "--image", "m", "--report", "r"];
+    let left = perform_over(alloc, &words, over(image)?, SURE)?;
+    assert_eq!(rt; left.status, 0);
+    assert_eq!(rt; left.out.as_slice(), b"A".as_slice());
+    assert!(rt; left.err.is_empty());
+    Ok(())
+}

@@ -1,10 +1,10 @@
 -- What was counted is the profile, and is valid.
-use Rattle.std.proofs.Common.{◌≡◌, ◌∙◌, sym, ap, subst, Bool}
+use Rattle.std.proofs.Common.{◌≡◌, ◌∙◌, sym, ap, subst, Bool, List}
 use Rattle.std.proofs.lemmas.Result.{err_from_is_err_and}
 use Rattle.cells.specs.Run.{State}
 use Rattle.seq_machine.specs.States.{state_of}
 use Rattle.seq_machine.specs.Parts.{start_of}
-use Rattle.profile_data.specs.Profile.{Profiled, IsProfile}
+use Rattle.profile_data.specs.Profile.{Tally, Profiled, IsProfile}
 use Rattle.profile_data.specs.Keyed.{profiled}
 use Rattle.profile_laws.specs.Profiles.{steps, IsProfileOf, IsWide}
 use Rattle.profiler.specs.declared.error.ProfilingErr.TheVariants.{Wide}
@@ -23,12 +23,15 @@ pub new-requires-2-clause-valid : goal.new-requires-2-clause-valid
 new-requires-2-clause-valid g c =
     let start = state_of g.M.Memory.at c.in_ok-machine.machine in
     let valid = made_is_valid g.M.Memory.at start (steps start c.args.budget) c.count_all.new.machine c.count_all.new.tally c.in_ok-count_all.ensures.counted (steps_small start c.args.budget c.requires.budget) in
-    subst (λ (b : Bool). IsProfile (profiled c.count_all.new.machine.position b c.count_all.new.tally.table.rows)) (sym c.is_some.ensures) valid
+    let closed : List Tally → Profiled = λ rows. record { steps = c.count_all.new.machine.position; ended = c.is_some.result; rows = rows } in
+    subst (λ rows. IsProfile (closed rows)) (sym c.in_ok-rows.ensures.rows)
+    (subst (λ (b : Bool). IsProfile (profiled c.count_all.new.machine.position b c.count_all.new.tally.table.rows)) (sym c.is_some.ensures) valid)
 
 pub returns-clause-profile : goal.returns-clause-profile
 returns-clause-profile g c =
     let start = state_of g.M.Memory.at c.in_ok-machine.machine in
     let begin = start_of c.args.p.now c.args.input.items in
     let is = made_is_profile g.M.Memory.at start (steps start c.args.budget) c.count_all.new.machine c.count_all.new.tally c.in_ok-count_all.ensures.counted begin c.in_ok-machine.ensures.state in
+    let closed : List Tally → Profiled = λ rows. record { steps = c.count_all.new.machine.position; ended = c.is_some.result; rows = rows } in
     let there = subst (λ (s : State). IsProfileOf begin (steps s c.args.budget) (made g.M.Memory.at start (steps start c.args.budget) c.count_all.new.machine c.count_all.new.tally c.in_ok-count_all.ensures.counted)) c.in_ok-machine.ensures.state is in
-    subst (λ (f : Profiled). IsProfileOf begin (steps begin c.args.budget) f) (sym (c.new-2.ensures ∙ ap (λ (b : Bool). profiled c.count_all.new.machine.position b c.count_all.new.tally.table.rows) c.is_some.ensures)) there
+    subst (λ (f : Profiled). IsProfileOf begin (steps begin c.args.budget) f) (sym (c.new-2.ensures ∙ ap closed c.in_ok-rows.ensures.rows ∙ ap (λ (b : Bool). profiled c.count_all.new.machine.position b c.count_all.new.tally.table.rows) c.is_some.ensures)) there

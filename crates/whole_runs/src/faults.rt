@@ -1,0 +1,70 @@
+//! Faults of the store: each of a command's calls fails once, and its line names the file of that call.
+
+use crate::profiles::COMPARE_LOOP_PROFILE;
+use run_world::images::*;
+use run_world::outside_world::{Fails, Files, SURE, perform_over};
+use run_world::programs::*;
+use std::alloc::{AllocError, Global};
+use std::test::Fail;
+
+/// The words of each command that reads files, and the names of the files in the order of its calls.
+/// The file `m` is an image, but for `distill` a profile.
+static CALLS: [(&[&str], &[&str]); 9] = [
+    (&["run", "p"], &["p"]),
+    (&["run", "p", "--input", "i"], &["p", "i"]),
+    (&["run", "p", "--report", "r"], &["p", "r"]),
+    (
+        &[
+            "run", "p", "--input", "i", "--image", "m", "--report", "r",
+        ],
+        &["p", "m", "i", "r"],
+    ),
+    (
+        &["replay", "p", "m", "e", "--input", "i"],
+        &["p", "m", "e", "i"],
+    ),
+    (&["profile", "p", "r", "--input", "i"], &["p", "i", "r"]),
+    (&["distill", "p", "m", "r"], &["p", "m", "r"]),
+    (&["check", "p", "m", "--input", "i"], &["p", "m", "i"]),
+    (&["show", "m"], &["m"]),
+];
+
+fn files(alloc: Global, words: &[&str]) -> Result<Files, AllocError> {
+    let image: &[u32] = if words[0] == "distill" {
+        &COMPARE_LOOP_PROFILE
+    } else {
+        &COMPARE_NEVER_TRUE
+    };
+    Ok(Files {
+        program: frame(alloc, &COMPARE_LOOP)?,
+        image: bytes_of(alloc, image)?,
+        events: b"1 serial\n".to_vec(alloc)?,
+        input: Vec::new(alloc),
+    })
+}
+
+#[test]
+fn each_call_of_the_store_is_told_by_its_file(rt: HostRuntime) -> Result<(), Fail> {
+    let alloc = rt.alloc();
+    for (words, names) in CALLS {
+        for (place, name) in names.iter().enumerate() {
+            let fails = Fails {
+                store: place as u64 + 1,
+                ..SURE
+            };
+            let left = perform_over(alloc, words, files(alloc, words)?, fails)?;
+            let line = format!(in alloc; "mssp: store fault {name}\n")?;
+            assert_eq!(rt; left.status, 112, "{words:?} {name}");
+            assert_eq!(rt; left.err.as_slice(), line.as_bytes(), "{words:?} {name}");
+            assert!(rt; left.report.is_empty(), "{words:?} {name}");
+        }
+        let fails = Fails {
+            store: names.len() as u64 + 1,
+            ..SURE
+        };
+        let left = perform_over(alloc, words, files(alloc, words)?, fails)?;
+        assert_eq!(rt; left.status, 0, "{words:?}");
+        assert!(rt; left.err.is_empty(), "{words:?}");
+    }
+    Ok(())
+}
