@@ -1,0 +1,3 @@
+mod Lists
+mod Paths
+mod Trees
