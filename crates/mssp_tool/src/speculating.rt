@@ -1,11 +1,12 @@
 //! A run of a speculative machine: it is given events until it has come far enough, and then told of
 //! by a report. It is driven as a [`Pair`], which squashes nothing where its image fits and is met.
-ghost use Rattle.std.specs.Prelude.{◌≡◌, ◌≤◌, ◌^◌, ℕ, false, [], length, drop, IfOk, OnOk, IfErr};
+ghost use Rattle.std.specs.Prelude.{◌≡◌, ◌+◌, ◌%◌, ◌<◌, ◌≤◌, ◌^◌, ℕ, false, [], length, drop, slice_get, Some, IfOk, OnOk, IfErr};
 ghost use Rattle.outside.specs.Answers.{Gains};
 ghost use Rattle.command_line.specs.Command.{shown_run};
 ghost use Rattle.cells.specs.Run.{is_over};
 ghost use Rattle.dist_image.specs.Image.{IsImage};
 ghost use Rattle.speculation.specs.Engine.{fresh};
+ghost use Rattle.speculation.specs.Rounds.{round};
 ghost use Rattle.schedules.specs.Schedule.{after, has_come};
 ghost use Rattle.engine.specs.Whole.{start_of, model_of, world_of, image_of, slaves_of};
 ghost use Rattle.report.specs.Events.{summary_text};
@@ -16,7 +17,7 @@ ghost use Rattle.mssp_tool.specs.Speculated.{schedule_of, events_of, IsStop, Unw
 use crate::answer::{Answer, Source};
 use crate::driving::{put_from, stand};
 use command_line::Run;
-use event_list::{Event, round};
+use event_list::Event;
 use memory::Memory;
 use nosquash::Pair;
 use outside::{Sink, Store, StoreErr};
@@ -42,19 +43,49 @@ fn schedule_of(run: &Run<'_>) -> Schedule
     }
 }
 
-// The event at a place of the schedule, from place 0 on.
-fn event_at(schedule: Schedule, slaves: u8, k: u64) -> Event
-    requires some { 1 ≤ slaves }
+// The event at a place of a round.
+#[inline(always)]
+fn turn(slaves: u8, place: u8) -> Event
     requires few { slaves ≤ 64 }
-    ensures { result ≡ events_of schedule slaves k }
+    requires place { place < slaves + 7 }
+    ensures { slice_get (round slaves) place ≡ Some result }
+{
+    match place {
+        0 => Event::Restart,
+        1 => Event::Serial,
+        2..=5 => Event::Master,
+        place if place < slaves + 6 => Event::Slave(place - 6),
+        _ => Event::Commit,
+    }
+}
+
+// The event of a schedule at a place of its rounds.
+#[inline(always)]
+#[tactic(auto, using(crate::proofs::Turns::at_turn))]
+fn event_at(schedule: Schedule, slaves: u8, place: u8) -> Event
+    requires few { slaves ≤ 64 }
+    requires place { place < slaves + 7 }
+    ensures { (k : ℕ) → k % (slaves + 7) ≡ place → result ≡ events_of schedule slaves k }
 {
     match schedule {
-        Schedule::Rounds => round(slaves, k),
+        Schedule::Rounds => turn(slaves, place),
         Schedule::Alone => Event::Serial,
     }
 }
 
+// The place behind a place of a round: rounds follow one another. It is kept, and not divided for.
+#[inline(always)]
+fn behind(slaves: u8, place: u8) -> u8
+    requires few { slaves ≤ 64 }
+    requires place { place < slaves + 7 }
+    ensures within { result < slaves + 7 }
+    ensures next { (k : ℕ) → k % (slaves + 7) ≡ place → (k + 1) % (slaves + 7) ≡ result }
+{
+    if place < slaves + 6 { place + 1 } else { 0 }
+}
+
 // Whether the machine has ended, or stands at this position or past it.
+#[inline(always)]
 fn has_come<M: Memory>(pair: &Pair<M>, far: u64) -> bool
     ensures { result ≡ has_come far (model_of M.at pair.now.engine) }
 {
@@ -63,6 +94,7 @@ fn has_come<M: Memory>(pair: &Pair<M>, far: u64) -> bool
 }
 
 // Puts the output from a place on, and gives its length.
+#[inline(always)]
 fn put_new<O: Sink, M: Memory>(
     alloc: Global,
     out: &mut O,
@@ -110,10 +142,11 @@ fn advance<O: Sink, M: Memory>(
         × CutOff (record { told = O.told out.old; left = O.told out.new; before = O.faults out.old; now = O.faults out.new })
         (after (world_of M.at pair.old.engine) (events_of schedule (slaves_of pair.old.engine)) k).committed.env.output a) }
 {
-    let mut given = 0;
+    let mut given: u64 = 0;
+    let mut place = 0;
     let mut put = 0;
     while !has_come(pair, budget) {
-        let e = event_at(schedule, slaves, given);
+        let e = event_at(schedule, slaves, place);
         match pair.event(alloc, e) {
             Ok(_) => {}
             Err(_) => return Err(Answer::Memory),
@@ -122,6 +155,7 @@ fn advance<O: Sink, M: Memory>(
             Ok(length) => put = length,
             Err(answer) => return Err(answer),
         }
+        place = behind(slaves, place);
         given += 1;
     }
     Ok(())

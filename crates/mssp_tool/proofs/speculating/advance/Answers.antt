@@ -11,6 +11,7 @@ use Rattle.mssp_tool.specs.Driven.{Stops}
 use Rattle.mssp_tool.specs.Speculated.{events_of}
 use Rattle.mssp_tool.proofs.Stops.{few_events, comes, counted_after, next_after, begins_after, silent_after}
 use Rattle.report.proofs.Gained.{gains-none}
+use Rattle.mssp_tool.proofs.Turns.{start}
 use Rattle.mssp_tool.proofs.Advances.{stopped_here, no_memory, not_yet_too, room_to_put, put_too, stopped_there}
 use Rattle.mssp_tool.proofs.speculating.advance.Goals as goal
 
@@ -32,6 +33,8 @@ loop-alloc-init g c =
       world = refl;
       model = begun;
       not_yet = λ i l. grind arith;
+      place = start (c.args.slaves + 7) (omega arith);
+      within = omega arith;
       put = sym (ap (λ (bs : List ℕ). length bs) silent);
       told = gains-none (g.O.Sink.told c.args.out.now) _ silent;
       faults = omega arith;
@@ -67,7 +70,7 @@ put_new-requires g c =
     let goes = goes_on c.args.budget (model_of at c.loop-alloc.pair.engine) (after (world_of at e0) (events_of c.args.schedule (slaves_of e0)) c.loop-alloc.given) c.has_come.result c.has_come.ensures c.loop-alloc-test.true i.model in
     let model : model_of at c.event.new.self.engine ≡ after (world_of at e0) (events_of c.args.schedule (slaves_of e0)) (c.loop-alloc.given + 1) =
     next_after (world_of at e0) (events_of c.args.schedule (slaves_of e0)) c.loop-alloc.given (c.loop-alloc.given + 1) (model_of at c.loop-alloc.pair.engine) (model_of at c.event.new.self.engine) c.event_at-e.result i.model
-    (c.event_at-e.ensures ∙ ap (λ n. events_of c.args.schedule n c.loop-alloc.given) c.requires.slaves)
+    (c.event_at-e.ensures c.loop-alloc.given i.place ∙ ap (λ n. events_of c.args.schedule n c.loop-alloc.given) c.requires.slaves)
     (ap (λ x. x.1) c.in-Ok.ensures.ok ∙ ap (λ w. (happens w (model_of at c.loop-alloc.pair.engine) c.event_at-e.result).1) i.world) refl in
     subst (λ (m : Model). c.loop-alloc.put ≤ length m.committed.env.output) (sym model)
     (room_to_put (start_of at e0) (image_of e0) (slaves_of e0) c.requires.image some c.args.schedule c.args.budget c.requires.least c.requires.running c.loop-alloc.given i.not_yet (g.O.Sink.told c.args.out.now) (g.O.Sink.told c.loop-alloc.out) i.told (c.loop-alloc.given + 1) c.loop-alloc.put refl i.put goes)
@@ -81,7 +84,7 @@ returns-in-Err-put_new-clause-err g c =
     let goes = goes_on c.args.budget (model_of at c.loop-alloc.pair.engine) (after (world_of at e0) (events_of c.args.schedule (slaves_of e0)) c.loop-alloc.given) c.has_come.result c.has_come.ensures c.loop-alloc-test.true i.model in
     let model : model_of at c.event.new.self.engine ≡ after (world_of at e0) (events_of c.args.schedule (slaves_of e0)) (c.loop-alloc.given + 1) =
     next_after (world_of at e0) (events_of c.args.schedule (slaves_of e0)) c.loop-alloc.given (c.loop-alloc.given + 1) (model_of at c.loop-alloc.pair.engine) (model_of at c.event.new.self.engine) c.event_at-e.result i.model
-    (c.event_at-e.ensures ∙ ap (λ n. events_of c.args.schedule n c.loop-alloc.given) c.requires.slaves)
+    (c.event_at-e.ensures c.loop-alloc.given i.place ∙ ap (λ n. events_of c.args.schedule n c.loop-alloc.given) c.requires.slaves)
     (ap (λ x. x.1) c.in-Ok.ensures.ok ∙ ap (λ w. (happens w (model_of at c.loop-alloc.pair.engine) c.event_at-e.result).1) i.world) refl in
     stopped_there (start_of at e0) (image_of e0) (slaves_of e0) c.requires.image some c.args.schedule c.args.budget c.requires.least c.requires.running c.loop-alloc.given i.not_yet (g.O.Sink.told c.args.out.now) (g.O.Sink.told c.loop-alloc.out) i.told (c.loop-alloc.given + 1) c.loop-alloc.put refl i.put goes
     (g.O.Sink.told c.put_new.new.out) (g.O.Sink.faults c.args.out.now) (g.O.Sink.faults c.loop-alloc.out) (g.O.Sink.faults c.put_new.new.out) c.in-Err-put_new.answer i.faults
@@ -118,12 +121,14 @@ loop-alloc-preserved g c =
     let goes = goes_on c.args.budget (model_of at c.loop-alloc.pair.engine) (after (world_of at e0) (events_of c.args.schedule (slaves_of e0)) c.loop-alloc.given) c.has_come.result c.has_come.ensures c.loop-alloc-test.true i.model in
     let model : model_of at c.event.new.self.engine ≡ after (world_of at e0) (events_of c.args.schedule (slaves_of e0)) (c.loop-alloc.given + 1) =
     next_after (world_of at e0) (events_of c.args.schedule (slaves_of e0)) c.loop-alloc.given (c.loop-alloc.given + 1) (model_of at c.loop-alloc.pair.engine) (model_of at c.event.new.self.engine) c.event_at-e.result i.model
-    (c.event_at-e.ensures ∙ ap (λ n. events_of c.args.schedule n c.loop-alloc.given) c.requires.slaves)
+    (c.event_at-e.ensures c.loop-alloc.given i.place ∙ ap (λ n. events_of c.args.schedule n c.loop-alloc.given) c.requires.slaves)
     (ap (λ x. x.1) c.in-Ok.ensures.ok ∙ ap (λ w. (happens w (model_of at c.loop-alloc.pair.engine) c.event_at-e.result).1) i.world) refl in
     record {
       world = same_world _ _ _ _ _ _ c.in-Ok.ensures.start c.in-Ok.ensures.image c.in-Ok.ensures.slaves ∙ i.world;
       model = model;
       not_yet = not_yet_too (start_of at e0) (image_of e0) (slaves_of e0) c.requires.image some c.args.schedule c.args.budget c.requires.least c.requires.running c.loop-alloc.given i.not_yet (g.O.Sink.told c.args.out.now) (g.O.Sink.told c.loop-alloc.out) i.told (c.loop-alloc.given + 1) c.loop-alloc.put refl i.put goes;
+      place = c.behind-place.ensures.next c.loop-alloc.given i.place;
+      within = c.behind-place.ensures.within;
       put = c.in-Ok-put_new.ensures.length ∙ ap (λ (m : Model). length m.committed.env.output) model;
       told = put_too (start_of at e0) (image_of e0) (slaves_of e0) c.requires.image some c.args.schedule c.args.budget c.requires.least c.requires.running c.loop-alloc.given i.not_yet (g.O.Sink.told c.args.out.now) (g.O.Sink.told c.loop-alloc.out) i.told (c.loop-alloc.given + 1) c.loop-alloc.put refl i.put goes (g.O.Sink.told c.put_new.new.out)
           (subst (λ (m : Model). Gains (g.O.Sink.told c.loop-alloc.out) (g.O.Sink.told c.put_new.new.out) (drop c.loop-alloc.put m.committed.env.output)) model c.in-Ok-put_new.ensures.ok);
