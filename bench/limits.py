@@ -64,55 +64,61 @@ class Measure:
     bytes: int
 
 
-def measure(command: list[str]) -> Measure:
+def measure(command: list[str], folder: str) -> Measure:
     with open(os.devnull, "r+b") as nothing:
-        running = subprocess.Popen(command, stdin=nothing, stdout=nothing, stderr=nothing)
+        running = subprocess.Popen(command, cwd=folder, stdin=nothing, stdout=nothing, stderr=nothing)
         _, status, used = os.wait4(running.pid, 0)
     return Measure(os.waitstatus_to_exitcode(status), used.ru_utime + used.ru_stime, 1024 * used.ru_maxrss)
 
 
-def cases(room: Path) -> list[tuple[str, Path, list[str], int]]:
-    """What is done, the file that counts, the command's words, and the status that is due."""
-
-    def put(name: str, content: bytes) -> Path:
+def write_files(room: Path) -> None:
+    files = {
+        "small": executable(EXIT),
+        # A jump through a register, then code that does nothing: as many rows as a profile has.
+        "line": executable([0x00028067] + [0x00128293] * (ROWS - 4) + EXIT),
+        "program": executable(EXIT, 16 * MIB),
+        "image": image(),
+        "image.long": image() + b"\0",
+        "image.empty": words(0x5053534D, 1, 16, 0, 0, 0, 0),
+        "profile": profile(),
+        "profile.long": profile() + b"\0",
+        "comments": b"#\n" * (32 * MIB),
+        "idle": b"1 commit\n" * (64 * MIB // 9),
+    }
+    for name, content in files.items():
         (room / name).write_bytes(content)
-        return room / name
 
-    small = put("small", executable(EXIT))
-    # A jump through a register, then code that does nothing: as many rows as a profile has.
-    jump = put("line", executable([0x00028067] + [0x00128293] * (ROWS - 4) + EXIT))
-    program = put("program", executable(EXIT, 16 * MIB))
-    great, longer = put("image", image()), room / "image.long"
-    longer.write_bytes(great.read_bytes() + b"\0")
-    rows = put("profile", profile())
-    long_rows = put("profile.long", rows.read_bytes() + b"\0")
-    comments = put("comments", b"#\n" * (32 * MIB))
-    idle = put("idle", b"1 commit\n" * (64 * MIB // 9))
-    report, made = str(room / "report"), str(room / "made")
-    return [
-        ("run, the greatest program", program, ["run", str(program)], 0),
-        ("profile of it", program, ["profile", str(program), made], 0),
-        ("show, the greatest image", great, ["show", str(great)], 0),
-        ("show, one byte more", longer, ["show", str(longer)], 117),
-        ("check beside it", great, ["check", str(small), str(great)], 1),
-        ("run beside it", great, ["run", str(small), "--image", str(great), "--report", report], 0),
-        ("distill, the greatest profile", rows, ["distill", str(jump), str(rows), made], 0),
-        ("distill, one byte more", long_rows, ["distill", str(jump), str(long_rows), made], 118),
-        ("replay, the longest list of comments", comments, ["replay", str(small), str(put("empty", words(0x5053534D, 1, 16, 0, 0, 0, 0))), str(comments)], 0),
-        ("replay, the longest list of lines", idle, ["replay", str(small), str(room / "empty"), str(idle)], 0),
-    ]
+
+# What is done, the file that counts, the command's words over the folder, the status that is due.
+CASES = [
+    ("run, the greatest program", "program", "run ./program", 0),
+    ("profile of it", "program", "profile ./program ./made", 0),
+    ("show, the greatest image", "image", "show ./image", 0),
+    ("show, one byte more", "image.long", "show ./image.long", 117),
+    ("check beside it", "image", "check ./small ./image", 0),
+    ("run beside it", "image", "run ./small --image ./image --report ./report", 0),
+    ("distill, the greatest profile", "profile", "distill ./line ./profile ./made", 0),
+    ("distill, one byte more", "profile.long", "distill ./line ./profile.long ./made", 118),
+    ("replay, the longest list of comments", "comments", "replay ./small ./image.empty ./comments", 0),
+    ("replay, the longest list of lines", "idle", "replay ./small ./image.empty ./idle", 0),
+]
 
 
 def main() -> int:
+    if sys.argv[1:2] == ["--write"]:
+        write_files(Path(sys.argv[2]))
+        return 0
     if len(sys.argv) != 2:
         print(__doc__.split("\n", 1)[0], file=sys.stderr)
         return 2
-    failed = 0
+    binary, failed = str(Path(sys.argv[1]).resolve()), 0
     print("| What | File, MiB | Seconds | Memory, MiB | Times the file |\n|---|---|---|---|---|")
-    with tempfile.TemporaryDirectory() as folder:
-        for what, file, command, status in cases(Path(folder)):
-            size = file.stat().st_size
-            took = measure([sys.argv[1], *command])
+    with tempfile.TemporaryDirectory() as room:
+        # A process of its own writes them: what this one holds counts as memory of those that it begins.
+        subprocess.run([sys.executable, __file__, "--write", room], check=True)
+        for what, file, command, status in CASES:
+            size = (Path(room) / file).stat().st_size
+            took = measure([binary, *command.split()], room)
             print(f"| {what} | {size / MIB:.1f} | {took.seconds:.2f} | {took.bytes / MIB:.0f} | {took.bytes / size:.1f} |", flush=True)
             if took.status != status:
                 print(f"bench/limits.py: {what}: status {took.status} for {status}", file=sys.stderr)
