@@ -42,6 +42,13 @@ image with many notes, anchors and dead stores, each on a page of its own; `chec
 by a register with many targets; `profile` of a jump whose targets come in descending order.
 It prints processor seconds and the greatest resident set, beside those of `run` and the
 length of the image's file.
+
+--figures counts host instructions by callgrind, and compares them with docs/MAP.md: of `run` for
+each guest instruction, beside the plain C interpreter; of `run` beside the image that `profile`
+and `distill` make, for each committed instruction, with 4, 16 and 64 slaves; and of `replay` for
+each idle event.  The guest queens.elf is taken from PEERS, where it is there.  Each figure has
+a row in docs/MAP.md that begins with its name and its number, as `| run mix | 75.3 |`.  Where one
+is missing, or a figure is more than 5 in 100 above the number of its row, the status is 1.
 """
 import argparse
 import hashlib
@@ -417,6 +424,82 @@ def show_hostile(binary):
             show(f"profile, {count} targets, descending", ["profile", file, image])
 
 
+def committed_for_each(binary, file, image, slaves, folder):
+    """The host instructions of a run beside an image for each committed instruction. A run may
+    pass its budget by a task, so the report tells how many there were."""
+    report = os.path.join(folder, "report")
+    counts = []
+    for budget in WINDOW:
+        words = [binary, "run", file, "--image", image, "--slaves", str(slaves), "--report", report]
+        host = host_instructions([*words, "--budget", str(budget)])
+        told = dict(line.rsplit(" ", 1) for line in Path(report).read_text().splitlines())
+        counts.append((host, int(told["position"])))
+    (first, start), (last, end) = counts
+    return (last - first) / (end - start)
+
+
+def idle_for_each(binary, folder):
+    """The host instructions of a replay for each event that finds nothing to do."""
+    program, image, events = (os.path.join(folder, name) for name in ("elf", "image", "events"))
+    Path(program).write_bytes(program_of(LOOP))
+    Path(image).write_bytes(loop_image())
+    counts = []
+    for count in WINDOW:
+        Path(events).write_text(f"{count} commit\n")
+        counts.append(host_instructions([binary, "replay", program, image, events], 0))
+    return (counts[1] - counts[0]) / (WINDOW[1] - WINDOW[0])
+
+
+def figures(binary):
+    """Counts the figures one by one: name, host instructions."""
+    peers = Path(os.environ.get("PEERS", REPOSITORY.parent / "shared" / "peers"))
+    files = {name: EXAMPLES / "bin" / f"{name}.elf" for name in PROGRAMS}
+    queens = peers / "corpus" / "public" / "elf" / "queens.elf"
+    for name, file in files.items():
+        yield f"run {name}", for_each([binary, "run", str(file)])
+        plain = other_engines().get("plain C")
+        if plain:
+            yield f"C interpreter {name}", for_each([*plain, str(file)])
+    if queens.exists():
+        files["queens"] = queens
+    with tempfile.TemporaryDirectory() as folder:
+        yield "replay idle", idle_for_each(binary, folder)
+        for name, file in files.items():
+            profile, image = (os.path.join(folder, kind) for kind in ("profile", "distilled"))
+            subprocess.run([binary, "profile", str(file), profile], check=True)
+            subprocess.run([binary, "distill", str(file), profile, image], check=True)
+            for slaves in (4, 16, 64):
+                yield f"run --image {name}, slaves {slaves}", committed_for_each(binary, str(file), image, slaves, folder)
+
+
+def rows_of_the_map():
+    """The numbers that docs/MAP.md gives: the first two cells of each row whose second is one."""
+    rows = {}
+    for line in (REPOSITORY / "docs" / "MAP.md").read_text().splitlines():
+        cells = [cell.strip().replace("`", "") for cell in line.split("|")]
+        if len(cells) > 3 and re.fullmatch(r"[0-9,]+(\.[0-9]+)?", cells[2]):
+            rows.setdefault(cells[1], float(cells[2].replace(",", "")))
+    return rows
+
+
+def check_figures(binary):
+    print("host instructions by callgrind, beside those of docs/MAP.md")
+    rows, risen = rows_of_the_map(), False
+    for name, found in figures(binary):
+        told = rows.get(name)
+        note = ""
+        if name.startswith("C interpreter"):
+            print(f"{name:32}{found:12.1f}", flush=True)
+            continue
+        if told is None:
+            note, risen = "no row", True
+        elif found > 1.05 * told:
+            note, risen = "risen", True
+        print(f"{name:32}{found:12.1f}{'' if told is None else told:>12}  {note}", flush=True)
+    if risen:
+        sys.exit("bench.py: a figure has risen by more than 5 in 100, or has no row in docs/MAP.md")
+
+
 def main():
     parser = argparse.ArgumentParser(
         description=__doc__, formatter_class=argparse.RawDescriptionHelpFormatter)
@@ -429,11 +512,19 @@ def main():
     parser.add_argument("--distilling", action="store_true",
                         help="time profiles, distilling and checks alone")
     parser.add_argument("--hostile", action="store_true", help="time large files and wide programs alone")
+
+
+    parser.add_argument("--figures", action="store_true",
+                        help="count host instructions alone, and compare them with docs/MAP.md")
     words = parser.parse_args()
     if words.runs < 1:
         parser.error("--runs has to be at least 1")
     if not os.access(words.binary, os.X_OK) or os.path.isdir(words.binary):
         parser.error(f"{words.binary} is no program")
+    if words.figures:
+        if not shutil.which("valgrind"):
+            sys.exit("bench.py: valgrind isn't installed")
+        return check_figures(os.path.abspath(words.binary))
     if words.replay:
         return show_replays(os.path.abspath(words.binary), words.runs)
     if words.hostile:
