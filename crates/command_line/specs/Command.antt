@@ -1,13 +1,15 @@
 -- What the words of the command line ask for. A word is its bytes.
-use Rattle.std.specs.Prelude.{ℕ, ◌^◌, ◌&&◌, if◌then◌else◌, List, [], ◌∷◌, codes, option_map, option_copied, is_some, is_none, Option, Some, None}
+use Rattle.std.specs.Prelude.{ℕ, ◌^◌, ◌&&◌, if◌then◌else◌, List, [], ◌∷◌, codes, option_map, option_and_then, option_copied, is_some, is_none, Option, Some, None}
 use Rattle.command_line.specs.declared.commands.Command.{Command as ReadCommand}
-use Rattle.command_line.specs.declared.commands.Command.TheVariants.{Run as ReadRun, Show as ReadShow, Replay as ReadReplay, Profile as ReadProfile, Distill as ReadDistill, Check as ReadCheck}
+use Rattle.command_line.specs.declared.commands.Command.TheVariants.{Run as ReadRun, Show as ReadShow, Replay as ReadReplay, Profile as ReadProfile, Distill as ReadDistill, Check as ReadCheck, Trial as ReadTrial}
 use Rattle.command_line.specs.declared.commands.Run.{Run as ReadRunCommand}
 use Rattle.command_line.specs.declared.commands.Replay.{Replay as ReadReplayCommand}
 use Rattle.command_line.specs.declared.commands.Walk.{Walk as ReadWalkCommand}
 use Rattle.command_line.specs.declared.commands.Distill.{Distill as ReadDistillCommand}
+use Rattle.command_line.specs.declared.commands.Trial.{Trial as ReadTrialCommand}
 use Rattle.command_line.specs.declared.options.Kind.{Kind}
 use Rattle.command_line.specs.declared.options.Kind.TheVariants.{File, Number}
+use Rattle.command_line.specs.Number.{number_within}
 use Rattle.command_line.specs.Options.{same, is_name, value_of, number_or, are_options}
 
 -- `run PROG`: the name of the program, the names of the image, of the input and of the report, if there are such, the number of slaves and the number of steps
@@ -44,6 +46,11 @@ pub record DistillCommand : Type 0 where
   pub goal : ℕ
   pub limit : ℕ
 
+-- `trial SEED SIZE`: the number that a program is drawn from, and how many blocks it has
+pub record TrialCommand : Type 0 where
+  pub seed : ℕ
+  pub size : ℕ
+
 -- a command; `show IMAGE` has the name of the image
 pub data Command : Type 0 where
   Run : RunCommand → Command
@@ -52,6 +59,7 @@ pub data Command : Type 0 where
   Profile : WalkCommand → Command
   Distill : DistillCommand → Command
   Check : WalkCommand → Command
+  Trial : TrialCommand → Command
 
 -- the options of `run`
 abbrev pub run_options : List (List ℕ × Kind)
@@ -147,6 +155,12 @@ distill_of (program ∷ profile ∷ output ∷ options) =
     then Some (distill_with program profile output options)
     else None
 
+-- what the words after `trial` ask for: two numbers
+abbrev pub trial_of : List (List ℕ) → Option TrialCommand
+trial_of (seed ∷ size ∷ []) =
+    option_and_then (λ n. option_map (λ m. record { seed = n; size = m }) (number_within 1 10_000 size)) (number_within 0 (10 ^ 12) seed)
+trial_of _ = None
+
 -- the command that the words are, or None where they are none
 abbrev pub command_of : List (List ℕ) → Option Command
 command_of [] = None
@@ -157,6 +171,7 @@ command_of (command ∷ words) =
     else if same command (codes "profile") then option_map Profile (walk_of words)
     else if same command (codes "distill") then option_map Distill (distill_of words)
     else if same command (codes "check") then option_map Check (walk_of words)
+    else if same command (codes "trial") then option_map Trial (trial_of words)
     else None
 
 -- a command that was read, as lists of bytes and numbers
@@ -198,6 +213,9 @@ shown_distill distill = record {
   limit = distill.limit;
 }
 
+abbrev pub shown_trial : ReadTrialCommand → TrialCommand
+shown_trial trial = record { seed = trial.seed; size = trial.size }
+
 abbrev pub shown : ReadCommand → Command
 shown (ReadRun run) = Run (shown_run run)
 shown (ReadShow image) = Show image.now
@@ -205,3 +223,4 @@ shown (ReadReplay replay) = Replay (shown_replay replay)
 shown (ReadProfile walk) = Profile (shown_walk walk)
 shown (ReadDistill distill) = Distill (shown_distill distill)
 shown (ReadCheck walk) = Check (shown_walk walk)
+shown (ReadTrial trial) = Trial (shown_trial trial)

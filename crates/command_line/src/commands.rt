@@ -81,6 +81,18 @@ pub struct Distill<'a> {
     pub ghost most_limit: { limit ≤ 16384 },
 }
 
+/// `trial SEED SIZE`: makes a program from a number, distils it, and runs it beside its image.
+#[derive(Clone, Copy, Debug, PartialEq, Eq)]
+pub struct Trial {
+    /// The number that the program is drawn from, from 0 to 10^12.
+    pub seed: u64,
+    /// How many blocks the program has, from 1 to 10,000.
+    pub size: u32,
+    pub ghost most_seed: { seed ≤ 10 ^ 12 },
+    pub ghost least_size: { 1 ≤ size },
+    pub ghost most_size: { size ≤ 10_000 },
+}
+
 /// What the words ask for.
 #[derive(Clone, Copy, Debug, PartialEq, Eq)]
 pub enum Command<'a> {
@@ -99,4 +111,6 @@ pub enum Command<'a> {
     Distill(Distill<'a>),
     /// `check`: tells whether a run meets the assumptions of an image.
     Check(Walk<'a>),
+    /// `trial`.
+    Trial(Trial),
 }

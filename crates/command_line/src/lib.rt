@@ -12,13 +12,15 @@ mod replay_words;
 mod run_words;
 #[cfg(test)]
 mod tests;
+mod trial_words;
 mod walk_words;
 
-pub use crate::commands::{Command, Distill, Replay, Run, Walk};
+pub use crate::commands::{Command, Distill, Replay, Run, Trial, Walk};
 use crate::distill_words::read_distill;
 use crate::options::{Rule, are_options};
 use crate::replay_words::read_replay;
 use crate::run_words::read_run;
+use crate::trial_words::read_trial;
 use crate::walk_words::read_walk;
 
 /// The options of `show`.
@@ -54,6 +56,9 @@ fn read_show(words: &[String]) -> Option<Command<'_>>
 /// | `profile PROG OUT` | `--input F`, `--budget` 1 to 10^12 (10^9) |
 /// | `distill PROG PROFILE OUT` | `--rare` 0 to 100 (10), `--hot` 1 to 10^12 (2), `--goal` 1 to 65,536 (200), `--limit` 16 to 16,384 (4,096) |
 /// | `check PROG IMAGE` | `--input F`, `--budget` 1 to 10^12 (10^9) |
+/// | `trial SEED SIZE` | |
+///
+/// `trial` has two numbers in place of names, 0 to 10^12 and 1 to 10,000.
 pub fn read_command(words: &[String]) -> Option<Command<'_>>
     ensures { option_map shown result ≡ command_of (map string_bytes words.now) }
 {
@@ -65,6 +70,7 @@ pub fn read_command(words: &[String]) -> Option<Command<'_>>
         "profile" => read_walk(rest).map(Command::Profile),
         "distill" => read_distill(rest).map(Command::Distill),
         "check" => read_walk(rest).map(Command::Check),
+        "trial" => read_trial(rest),
         _ => None,
     }
 }

@@ -13,4 +13,4 @@ pub use effect::put_effect;
 pub use show::put_image;
 pub use summary::{put_summary, summary_bytes};
 pub use text::{Word, push_end, push_line, push_words};
-pub use verdict::put_verdict;
+pub use verdict::{push_verdict, put_verdict};

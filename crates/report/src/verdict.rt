@@ -22,8 +22,9 @@ fn push_broken(out: &mut Vec<u8>, position: u64, assumption: &Assumption) -> Res
     out.extend_from_slice(b"\n")
 }
 
-// Puts the line of a verdict at the end.
-fn push_verdict(out: &mut Vec<u8>, i: &Image, v: Verdict) -> Result<(), AllocError>
+/// Puts the line of a verdict on a run and an image at the end. The image has to list the assumption that it
+/// tells of.
+pub fn push_verdict(out: &mut Vec<u8>, i: &Image, v: Verdict) -> Result<(), AllocError>
     requires { IsOfList i.now.assumptions v }
     ensures { OnOk result (out.new.items ≡ out.old.items ++ verdict_line i.now v) }
 {
