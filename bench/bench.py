@@ -355,8 +355,8 @@ def show_distilling_instructions(binary, programs):
 
 def image_of(anchors, notes, assumptions, limit=64):
     """An image with one Fork slot for each anchor, and the numbers of each assumption."""
-    slots = [number for k in range(len(anchors)) for number in (2, k, 0)]
-    counted = [len(anchors), len(anchors), len(notes), len(assumptions)]
+    slots = [number for k in range(len(anchors)) for number in (2, k, 0)] or [1, notes[0], 0]
+    counted = [len(slots) // 3, len(anchors), len(notes), len(assumptions)]
     tables = [number for k, pc in enumerate(anchors) for number in (pc, k, 1)]
     noted = [number for pc in notes for number in (pc, 0, 0, 0)]
     listed = [number for one in assumptions for number in one]
@@ -375,11 +375,11 @@ RETURNING = (0x00000297, 0x00028067)
 
 
 def targets_image(count):
-    """The jump of that program has so many targets, and goes to the last."""
+    """The jump of that program has so many targets, and goes to the one at 0x10000."""
     targets = [0x10000 - 4 * k for k in range(min(count, 0x4000))][::-1]
     more = [0x10000 + 4 * k for k in range(1, count - len(targets) + 1)]
     listed = [*targets, *more]
-    return image_of([], [0x10000, 0x10004], [(1, 0x10004, 0, len(listed), *listed)]), len(listed)
+    return image_of([], [0x10000, 0x10004], [(1, 0x10004, 0, len(listed), *listed)])
 
 
 def descending(count):
@@ -391,6 +391,16 @@ def descending(count):
     header = numbers(0x464C457F, 0x00010101, 0, 0, 0x00F30002, 1, 0x10000, 52, 0, 0, 0x00200034, 2, 0)
     parts = numbers(1, 116, 0x10000, 0x10000, here, here, 5, 4, 1, behind, first, first, size, size, 5, 4)
     return header + parts + numbers(*words) + numbers(0x00030067) * count
+
+
+def made(file, maker):
+    """Writes a file in a process of its own: what a program keeps resident counts from this process on."""
+    child = os.fork()
+    if child == 0:
+        Path(file).write_bytes(maker())
+        os._exit(0)
+    if os.waitpid(child, 0)[1] != 0:
+        sys.exit(f"bench.py: {file} can't be written")
 
 
 def measured(words):
@@ -412,14 +422,14 @@ def show_hostile(binary):
 
         Path(file).write_bytes(program_of(LAST))
         for count in (1_000, 10_000, 100_000):
-            Path(image).write_bytes(wide_image(count))
+            made(image, lambda: wide_image(count))
             show(f"check, {count} notes, {os.path.getsize(image) / 2 ** 20:.1f} MB", ["check", file, image])
         Path(file).write_bytes(program_of(RETURNING))
         for count in (100, 16_384, 50_000):
-            Path(image).write_bytes(targets_image(count)[0])
+            made(image, lambda: targets_image(count))
             show(f"check, a jump with {count} targets", ["check", file, image, "--budget", "400000"])
         for count in (51_200, 102_400, 399_360):
-            Path(file).write_bytes(descending(count))
+            made(file, lambda: descending(count))
             show(f"run, {count} targets, descending", ["run", file])
             show(f"profile, {count} targets, descending", ["profile", file, image])
 

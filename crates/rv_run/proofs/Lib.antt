@@ -2,3 +2,4 @@ pub mod Local
 pub mod Registers
 pub mod Writes
 pub mod Worked
+pub mod Bounded

@@ -4,3 +4,4 @@ pub mod Machine
 pub mod Calls
 pub mod Start
 pub mod Programs
+pub mod Bounded
