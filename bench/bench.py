@@ -522,8 +522,6 @@ def main():
     parser.add_argument("--distilling", action="store_true",
                         help="time profiles, distilling and checks alone")
     parser.add_argument("--hostile", action="store_true", help="time large files and wide programs alone")
-
-
     parser.add_argument("--figures", action="store_true",
                         help="count host instructions alone, and compare them with docs/MAP.md")
     words = parser.parse_args()
