@@ -2,7 +2,7 @@
 
 use run_world::hostile_images::*;
 use run_world::images::*;
-use run_world::outside_world::{Files, SURE, perform_over, perform_torn};
+use run_world::outside_world::{Fails, Files, SURE, perform_over, perform_torn};
 use run_world::programs::*;
 use std::alloc::{AllocError, Global};
 use std::test::Fail;
@@ -119,6 +119,40 @@ fn a_torn_output_holds_what_fits(rt: HostRuntime) -> Result<(), Fail> {
             assert_eq!(rt; left.out.as_slice(), &whole.out[..room], "{words:?} {room}");
             assert_eq!(rt; left.err.as_slice(), b"mssp: sink fault\n".as_slice());
         }
+    }
+    Ok(())
+}
+
+/// Each command that puts something, with the status that it has where nothing fails.
+static PUTTING: [(&[&str], u8); 4] = [
+    (&["run", "p"], 0),
+    (&["replay", "p", "m", "e"], 0),
+    (&["show", "m"], 0),
+    (&["check", "p", "m"], 0),
+];
+
+#[test]
+fn each_put_fails_in_turn(rt: HostRuntime) -> Result<(), Fail> {
+    let alloc = rt.alloc();
+    for &(words, status) in &PUTTING {
+        let mut ample = files(alloc, &EXIT_7_CALL, FORKED_EVENTS)?;
+        ample.program = frame(alloc, &HELLO_TWICE)?;
+        let whole = perform_over(alloc, words, ample, SURE)?;
+        assert_eq!(rt; whole.status, status, "{words:?}");
+        let mut failed = 0;
+        for out in 1..64 {
+            let mut again = files(alloc, &EXIT_7_CALL, FORKED_EVENTS)?;
+            again.program = frame(alloc, &HELLO_TWICE)?;
+            let left = perform_over(alloc, words, again, Fails { out, ..SURE })?;
+            if left.status == status {
+                break;
+            }
+            failed += 1;
+            assert_eq!(rt; left.status, 113, "{words:?} {out}");
+            assert!(rt; whole.out.starts_with(&left.out), "{words:?} {out}");
+            assert_eq!(rt; left.err.as_slice(), b"mssp: sink fault\n".as_slice());
+        }
+        assert!(rt; 0 < failed && failed < 63, "{words:?}");
     }
     Ok(())
 }
