@@ -13,9 +13,10 @@ use crate::reading::{events_in, image_in, input_in, program_in};
 use command_line::Replay;
 use engine::Engine;
 use event_list::Event;
-use memory::{Memory, PlainMemory};
+use memory::Memory;
 use nosquash::Pair;
 use outside::{Sink, SinkErr, Store};
+use page_tree::PageTree;
 use seq_machine::load;
 use std::alloc::Global;
 
@@ -78,7 +79,7 @@ pub fn replay<S: Store, O: Sink>(
         (record { told = O.told out.old; left = O.told out.new; before = O.faults out.old; now = O.faults out.new })
         result }
 {
-    let mut ready: Prepared<PlainMemory> = match prepare(alloc, store, replay) {
+    let mut ready: Prepared<PageTree> = match prepare(alloc, store, replay) {
         Ok(ready) => ready,
         Err(answer) => return answer,
     };

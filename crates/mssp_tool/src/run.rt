@@ -15,9 +15,10 @@ use command_line::Run;
 use dist_image::Image;
 use elf_reader::Program;
 use engine::Engine;
-use memory::{Memory, PlainMemory};
+use memory::Memory;
 use nosquash::Pair;
 use outside::{Sink, Store};
+use page_tree::PageTree;
 use seq_machine::{Machine, load};
 use std::alloc::Global;
 
@@ -92,6 +93,31 @@ fn run_reported<S: Store, O: Sink, M: Memory>(
     }
 }
 
+// Runs a program over a memory of that kind.
+fn run_on<S: Store, O: Sink, M: Memory>(
+    alloc: Global,
+    store: &mut S,
+    out: &mut O,
+    run: &Run<'_>,
+) -> Answer
+    ensures files { OnlyChanges (S.told store.old) (S.told store.new) (shown_run run.now).report }
+    ensures cause { RunCause
+        (record { told = S.told store.old; before = S.faults store.old; now = S.faults store.new })
+        (S.told store.new)
+        (shown_run run.now)
+        (record { told = O.told out.old; left = O.told out.new; before = O.faults out.old; now = O.faults out.new })
+        result }
+{
+    let mut ready: Prepared<M> = match prepare(alloc, store, run) {
+        Ok(ready) => ready,
+        Err(answer) => return answer,
+    };
+    match run.report {
+        Some(name) => run_reported(alloc, store, out, ready, run, name),
+        None => drive(alloc, &mut ready.machine, run.budget, out),
+    }
+}
+
 /// Runs a program, and puts its output as it comes. Where a report is asked for, a speculative
 /// machine runs it: in rounds beside an image, and else by serial steps alone.
 pub fn run<S: Store, O: Sink>(alloc: Global, store: &mut S, out: &mut O, run: &Run<'_>) -> Answer
@@ -103,12 +129,5 @@ pub fn run<S: Store, O: Sink>(alloc: Global, store: &mut S, out: &mut O, run: &R
         (record { told = O.told out.old; left = O.told out.new; before = O.faults out.old; now = O.faults out.new })
         result }
 {
-    let mut ready: Prepared<PlainMemory> = match prepare(alloc, store, run) {
-        Ok(ready) => ready,
-        Err(answer) => return answer,
-    };
-    match run.report {
-        Some(name) => run_reported(alloc, store, out, ready, run, name),
-        None => drive(alloc, &mut ready.machine, run.budget, out),
-    }
+    run_on::<S, O, PageTree>(alloc, store, out, run)
 }

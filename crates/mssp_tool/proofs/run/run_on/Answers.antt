@@ -3,7 +3,7 @@ use Rattle.std.proofs.Common.{ap}
 use Rattle.std.specs.Prelude.{option_copied}
 use Rattle.command_line.specs.Command.{shown_run}
 use Rattle.mssp_tool.proofs.Reports.{unchanged, reported_cause, reported_changes}
-use Rattle.mssp_tool.proofs.run.run.Goals as goal
+use Rattle.mssp_tool.proofs.run.run_on.Goals as goal
 
 pub returns-in-Err-clause-files : goal.returns-in-Err-clause-files
 returns-in-Err-clause-files g c = unchanged (g.S.Store.told c.args.store.now) (g.S.Store.told c.prepare.new.store) (shown_run c.args.run.now).report c.prepare.ensures.files
