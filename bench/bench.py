@@ -49,6 +49,13 @@ and `distill` make, for each committed instruction, with 4, 16 and 64 slaves; an
 each idle event.  The guest queens.elf is taken from PEERS, where it is there.  Each figure has
 a row in docs/MAP.md that begins with its name and its number, as `| run mix | 75.3 |`.  Where one
 is missing, or a figure is more than 5 in 100 above the number of its row, the status is 1.
+
+--masks distils programs of 2,000, 32,000 and 524,288 instructions by profiles that are made
+here, and prints the seconds and the greatest resident set of each: a line at whose end one
+register is read; and one at whose end 31 registers are read, one after the other, so that
+each goes up the line on its own.  A line that ends with a jump by a register to each of its
+instructions has 2,000, 4,000 and 8,000 of them, since that takes the square of their number.
+Then it times `trial 1 2000` and `trial 1 10000`.
 """
 import argparse
 import hashlib
@@ -253,6 +260,20 @@ def seconds_of(words, status):
     return used.ru_utime + used.ru_stime
 
 
+def measured(words):
+    """The processor seconds of a run that ends with status 0, and its greatest resident set in MB."""
+    child = subprocess.Popen(words, stdin=subprocess.DEVNULL, stdout=subprocess.DEVNULL)
+    resident, ended = 0.0, 0
+    while not ended:
+        resident = max(resident, high_water(child.pid))
+        time.sleep(0.005)
+        ended, status, used = os.wait4(child.pid, os.WNOHANG)
+    child.returncode = os.waitstatus_to_exitcode(status)
+    if child.returncode:
+        sys.exit(f"bench.py: {' '.join(words)}: status {child.returncode}")
+    return used.ru_utime + used.ru_stime, resident
+
+
 def show_replays(binary, runs):
     rounds = EVENTS // len(ROUND)
     lists = {
@@ -403,7 +424,7 @@ def made(file, maker):
         sys.exit(f"bench.py: {file} can't be written")
 
 
-def measured(words):
+def measured_with_status(words):
     """The processor seconds of a command, its greatest resident set in MB, and its status."""
     child = subprocess.Popen(words, stdin=subprocess.DEVNULL, stdout=subprocess.DEVNULL, stderr=subprocess.DEVNULL)
     _, status, used = os.wait4(child.pid, 0)
@@ -417,7 +438,7 @@ def show_hostile(binary):
         file, image = (os.path.join(folder, name) for name in ("elf", "image"))
 
         def show(name, words):
-            seconds, resident, status = measured([binary, *words])
+            seconds, resident, status = measured_with_status([binary, *words])
             print(f"{name:44}{seconds:10.2f}{resident:10.1f}   status {status}", flush=True)
 
         Path(file).write_bytes(program_of(LAST))
@@ -510,6 +531,41 @@ def check_figures(binary):
         sys.exit("bench.py: a figure has risen by more than 5 in 100, or has no row in docs/MAP.md")
 
 
+def profile_of(count, targets=()):
+    """The profile of a line that was gone through once, where the last instruction went to these targets."""
+    rows = b"".join(struct.pack("<IIQQI", 0x10000 + 4 * place, 0, 1, 0, 0) for place in range(count - 1))
+    last = struct.pack("<IIQQI", 0x10000 + 4 * (count - 1), 0, 1, 0, len(targets)) + numbers(*targets)
+    return struct.pack("<IIQII", 0x4650534D, 1, count, 0, count) + rows + last
+
+
+FENCE, JUMP = 0x0000000F, 0x00028067  # JALR to x5
+
+
+def line_of(count, last):
+    """A line of so many instructions that ends with these."""
+    return [FENCE] * (count - len(last)) + last
+
+
+def show_masks(binary, runs):
+    print(f"processor seconds, best of {runs} runs, and MB (load {os.getloadavg()[0]:.1f})")
+    one = [store(4, 5, 0, 0)]
+    waves = [store(4, register, 0, 0) for register in range(1, 32)]
+    cases = [(name, count, line_of(count, last), ()) for count in (2_000, 32_000, 524_288)
+             for name, last in (("one register", one), ("31 registers", waves))]
+    for count in (2_000, 4_000, 8_000):
+        cases.append(("jump to all", count, line_of(count, [JUMP]), [0x10000 + 4 * place for place in range(count)]))
+    with tempfile.TemporaryDirectory() as folder:
+        file, profile, image = (os.path.join(folder, name) for name in ("elf", "profile", "image"))
+        for name, count, words, targets in cases:
+            Path(file).write_bytes(program_of(words))
+            Path(profile).write_bytes(profile_of(count, targets))
+            found = [measured([binary, "distill", file, profile, image]) for _ in range(runs)]
+            print(f"{f'distill {count}':16}{name:14}{min(found)[0]:14.3f}{max(m for _, m in found):10.1f}", flush=True)
+    for size in (2_000, 10_000):
+        found = [measured([binary, "trial", "1", str(size)]) for _ in range(runs)]
+        print(f"{f'trial 1 {size}':30}{min(found)[0]:14.3f}{max(m for _, m in found):10.1f}", flush=True)
+
+
 def main():
     parser = argparse.ArgumentParser(
         description=__doc__, formatter_class=argparse.RawDescriptionHelpFormatter)
@@ -524,6 +580,7 @@ def main():
     parser.add_argument("--hostile", action="store_true", help="time large files and wide programs alone")
     parser.add_argument("--figures", action="store_true",
                         help="count host instructions alone, and compare them with docs/MAP.md")
+    parser.add_argument("--masks", action="store_true", help="time distilling of long lines, and trials, alone")
     words = parser.parse_args()
     if words.runs < 1:
         parser.error("--runs has to be at least 1")
@@ -539,6 +596,8 @@ def main():
         return show_hostile(os.path.abspath(words.binary))
     if words.rounds:
         return show_rounds(os.path.abspath(words.binary), words.runs)
+    if words.masks:
+        return show_masks(os.path.abspath(words.binary), words.runs)
     programs = [Program(name) for name in PROGRAMS]
     if words.distilling and words.callgrind:
         return show_distilling_instructions(os.path.abspath(words.binary), programs)

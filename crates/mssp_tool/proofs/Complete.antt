@@ -5,7 +5,7 @@ use Rattle.std.specs.FinMap as finite
 use Rattle.std.proofs.lemmas.Bool.{cond-true, cond-false}
 use Rattle.std.proofs.lemmas.Bool.Decides.{nat_tests}
 use Rattle.outside.specs.Files.{Files}
-use Rattle.command_line.specs.Command.{Command, Run, Show, Replay, Profile, Distill, Check, RunCommand, ReplayCommand, WalkCommand, DistillCommand}
+use Rattle.command_line.specs.Command.{Command, Run, Show, Replay, Profile, Distill, Check, Trial, RunCommand, ReplayCommand, WalkCommand, DistillCommand, TrialCommand}
 use Rattle.dist_image.specs.Image.{Distilled}
 use Rattle.dist_image.specs.Reading.{image_from}
 use Rattle.elf_reader.specs.Refusal.{refusal}
@@ -38,6 +38,10 @@ use Rattle.mssp_tool.proofs.Checks.{verdict_tested}
 use Rattle.mssp_tool.specs.Distill.{Undistilled, Distills, DistillCause, distill_answer}
 use Rattle.elf_reader.specs.Accepted.{program_of}
 use Rattle.mssp_tool.proofs.Profiles.{wide_tested, narrow_tested, its_rows}
+use Rattle.profile_data.specs.Profile.{Tally}
+use Rattle.profile_laws.specs.Profiles.{IsWide}
+use Rattle.trial_report.specs.Trial.{budget, start_made, IsProfileMade}
+use Rattle.mssp_tool.specs.Trial.{TrialCause, trial_answer}
 use Rattle.mssp_tool.specs.Top.{Cause, answer_of}
 
 -- a told file within its limit leads on
@@ -368,6 +372,32 @@ module _ (store : Reads) (out : Puts) (files : Files) (told : store.told ≡ Som
         ∙ verdict_tested (start_from p i) im fs.has_image.1.is_image w.budget v is))
         (judged im v a j)
 
+  -- ---- `trial`
+
+  module _ (t : TrialCommand) where
+    abbrev made_rows : List Tally
+    made_rows = (kept (start_made t.seed t.size) (steps (start_made t.seed t.size) budget)).rows
+
+    abbrev after_made : Answer
+    after_made = cond (nat_eq (length (analysed made_rows)) 0) (Refused refused.Empty) Done
+
+    made_so : (f : Profiled) → IsProfileMade t.seed t.size f → f.rows ≡ made_rows
+    made_so f is = its_rows (start_made t.seed t.size) (steps (start_made t.seed t.size) budget) f is
+
+    narrow_made : (f : Profiled) → IsProfileMade t.seed t.size f → (IsWide f.rows → ⊥) → trial_answer t ≡ after_made
+    narrow_made f is narrow = cond-false (is_wide made_rows) (Refused refused.Wide) after_made (ap is_wide (sym (made_so f is)) ∙ narrow_tested f.rows narrow)
+
+    trial_complete : (a : Answer) → TrialCause t out a → Is a (trial_answer t)
+    trial_complete a (inl (is, nothing)) = inr is
+    trial_complete a (inr (inl (f, is, wide, refusal_is, nothing))) =
+        inl (refusal_is ∙ sym (cond-true (is_wide made_rows) (Refused refused.Wide) after_made (ap is_wide (sym (made_so f is)) ∙ wide_tested f.rows wide)))
+    trial_complete a (inr (inr (inl (f, is, narrow, none, refusal_is, nothing)))) =
+        inl (refusal_is ∙ sym (narrow_made f is narrow ∙ cond-true (nat_eq (length (analysed made_rows)) 0) (Refused refused.Empty) Done
+        (ap (λ (pcs : List ℕ). nat_eq (length pcs) 0) (ap analysed (sym (made_so f is)) ∙ none))))
+    trial_complete a (inr (inr (inr (f, text, h, d)))) =
+        let some : nat_eq (length (analysed made_rows)) 0 ≡ false = ap (λ rows. nat_eq (length (analysed rows)) 0) (sym (made_so f h.profile)) ∙ some_tested (analysed f.rows) h.some in
+        is_also a Done (trial_answer t) (sym (narrow_made f h.profile h.narrow ∙ cond-false (nat_eq (length (analysed made_rows)) 0) (Refused refused.Empty) Done some)) (delivered text a d)
+
   pub complete : (left : Option Files) (command : Option Command) (a : Answer) → Cause store left command out a → (a ≡ answer_of files command) ⊎ (a ≡ Memory)
   complete left None a h = inl h.0
   complete left (Some (Run r)) a h = run_complete r left a h
@@ -376,3 +406,4 @@ module _ (store : Reads) (out : Puts) (files : Files) (told : store.told ≡ Som
   complete left (Some (Profile w)) a h = profile_complete w left a h.0
   complete left (Some (Distill d)) a h = distill_complete d left a h.0
   complete left (Some (Check w)) a h = check_complete w a h.0
+  complete left (Some (Trial t)) a h = trial_complete t a h.0

@@ -6,7 +6,7 @@ use Rattle.cells.specs.declared.End.{End}
 use Rattle.cells.specs.Run.{State, is_over}
 use Rattle.command_line.specs.Command.{Run, Replay, RunCommand, ReplayCommand, shown, shown_run, shown_replay}
 use Rattle.command_line.specs.declared.commands.Command.{Command as ReadCommand}
-use Rattle.command_line.specs.declared.commands.Command.TheVariants.{Run as ReadRun, Show as ReadShow, Replay as ReadReplay, Profile as ReadProfile, Distill as ReadDistill, Check as ReadCheck}
+use Rattle.command_line.specs.declared.commands.Command.TheVariants.{Run as ReadRun, Show as ReadShow, Replay as ReadReplay, Profile as ReadProfile, Distill as ReadDistill, Check as ReadCheck, Trial as ReadTrial}
 use Rattle.speculation.specs.declared.Counts.{Counts}
 use Rattle.speculation.specs.declared.Effect.{Effect}
 use Rattle.speculation.specs.declared.Effect.TheVariants.{Idle}
@@ -47,6 +47,7 @@ some_run (Some (ReadReplay x)) r is = absurd (cc)
 some_run (Some (ReadProfile x)) r is = absurd (cc)
 some_run (Some (ReadDistill x)) r is = absurd (cc)
 some_run (Some (ReadCheck x)) r is = absurd (cc)
+some_run (Some (ReadTrial x)) r is = absurd (cc)
 some_run (Some (ReadRun x)) r is = let same : shown_run x ≡ r = cc in subst (λ (y : RunCommand). 0 < y.slaves) same x.some
 
 pub some_replay : (o : Option ReadCommand) (r : ReplayCommand) → option_map shown o ≡ Some (Replay r) → 0 < r.slaves
@@ -56,6 +57,7 @@ some_replay (Some (ReadRun x)) r is = absurd (cc)
 some_replay (Some (ReadProfile x)) r is = absurd (cc)
 some_replay (Some (ReadDistill x)) r is = absurd (cc)
 some_replay (Some (ReadCheck x)) r is = absurd (cc)
+some_replay (Some (ReadTrial x)) r is = absurd (cc)
 some_replay (Some (ReadReplay x)) r is = let same : shown_replay x ≡ r = cc in subst (λ (y : ReplayCommand). 0 < y.slaves) same x.some
 
 -- ---- a replay

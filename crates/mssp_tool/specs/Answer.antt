@@ -2,7 +2,7 @@
 use Rattle.std.specs.Prelude.{ℕ, ◌%◌, List, [], ◌∷◌, ◌++◌, codes, decimal, Option, Some, unwrap_or}
 use Rattle.cells.specs.declared.End.{End}
 use Rattle.cells.specs.declared.End.TheVariants.{Exit}
-use Rattle.command_line.specs.Command.{Command, Run, Show, Replay, Profile, Distill, Check}
+use Rattle.command_line.specs.Command.{Command, Run, Show, Replay, Profile, Distill, Check, Trial}
 use Rattle.dist_image.specs.declared.error.ImageErr.{ImageErr}
 use Rattle.dist_image.specs.declared.error.ImageErr.TheVariants as image
 use Rattle.dist_image.specs.declared.error.Table.{Table}
@@ -47,7 +47,7 @@ status_of (Ran pc end) = end_status end
 status_of Budget = 120
 status_of Broken = 1
 
--- the name that a command has for a file, or nothing where it has none
+-- the name that a command has for a file, or nothing where it has none; a trial has no files, and goes by its own name
 abbrev pub name_of : Option Command → Source → List ℕ
 name_of (Some (Run r)) source.Program = r.program
 name_of (Some (Run r)) source.Image = unwrap_or r.image []
@@ -67,6 +67,8 @@ name_of (Some (Distill d)) source.Output = d.output
 name_of (Some (Check w)) source.Program = w.program
 name_of (Some (Check w)) source.Image = w.other
 name_of (Some (Check w)) source.Input = unwrap_or w.input []
+name_of (Some (Trial t)) source.Program = codes "trial"
+name_of (Some (Trial t)) source.Profile = codes "trial"
 name_of _ _ = []
 
 -- what a program is refused for

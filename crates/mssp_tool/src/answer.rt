@@ -116,6 +116,7 @@ fn name<'a>(command: Option<Command<'a>>, source: Source) -> &'a str
         (Some(Command::Check(walk)), Source::Program) => walk.program,
         (Some(Command::Check(walk)), Source::Image) => walk.other,
         (Some(Command::Check(walk)), Source::Input) => walk.input.unwrap_or(""),
+        (Some(Command::Trial(_)), Source::Program | Source::Profile) => "trial",
         _ => "",
     }
 }

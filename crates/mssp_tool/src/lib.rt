@@ -14,5 +14,6 @@ mod run;
 mod show;
 mod speculating;
 mod top;
+mod trial;
 
 pub use top::mssp;

@@ -12,6 +12,7 @@ use crate::profile::profile;
 use crate::replay::replay;
 use crate::run::run;
 use crate::show::show;
+use crate::trial::trial;
 use command_line::{Command, read_command};
 use outside::{Sink, SinkErr, Store};
 use std::alloc::Global;
@@ -37,6 +38,7 @@ fn perform<S: Store, O: Sink>(
         Some(Command::Profile(asked)) => profile(alloc, store, &asked),
         Some(Command::Distill(asked)) => distill(alloc, store, &asked),
         Some(Command::Check(asked)) => check(alloc, store, out, &asked),
+        Some(Command::Trial(asked)) => trial(alloc, out, &asked),
         None => Answer::Usage,
     }
 }
