@@ -40,8 +40,8 @@ words that a store wrote, and words across two words of memory.
 --hostile gives large files and programs that do little else than look up: `check` beside an
 image with many notes, anchors and dead stores, each on a page of its own; `check` of a jump
 by a register with many targets; `profile` of a jump whose targets come in descending order.
-It prints processor seconds and the greatest resident set, beside those of `run` and the
-length of the image's file.
+It prints processor seconds and the greatest resident set, in which this script's own counts
+for a command that needs less, beside those of `run` and the length of the image's file.
 
 --figures counts host instructions by callgrind, and compares them with docs/MAP.md: of `run` for
 each guest instruction, beside the plain C interpreter; of `run` beside the image that `profile`
@@ -433,7 +433,7 @@ def measured_with_status(words):
 
 
 def show_hostile(binary):
-    print(f"processor seconds and greatest resident set, MB (load {os.getloadavg()[0]:.1f})")
+    print(f"processor seconds and greatest resident set, MB, which is this script's own at least (load {os.getloadavg()[0]:.1f})")
     with tempfile.TemporaryDirectory() as folder:
         file, image = (os.path.join(folder, name) for name in ("elf", "image"))
 
