@@ -4,15 +4,11 @@ use Rattle.std.specs.Prelude.{map, is_some, nat_le, nat_lt}
 use Rattle.std.specs.List.{position, position_or_len}
 use Rattle.std.proofs.lemmas.Bool.{cases_lt, cases_eq, lt-ltb, le-ltb, lt-leb, le-leb, leb-true, leb-false, ne_eqb, eq-eqb}
 use Rattle.std.proofs.lemmas.Nat.{div-add-mod', mod-mul-add, mod_below}
-use Rattle.std.proofs.lemmas.List.{length-map, get_or_default}
+use Rattle.std.proofs.lemmas.List.{length-map}
 use Rattle.std.proofs.lemmas.List.Sums.{position_or_len_is}
 use Rattle.speculation.specs.Kept.{AreNumbered}
 use Rattle.slave.specs.Task.{Shown, modelled as task_modelled}
 use Rattle.engine.specs.Shown.{is_run_by, place_of}
-
-pub none_among : {X : Type 0} (p : X → Bool) (xs : List X) → length xs ≡ 0 → position p xs ≡ None
-none_among p [] e = refl
-none_among p (x ∷ xs) e = absurd (omega (arith, e))
 
 -- the first place that passes, and where none does
 pub position_at : {X : Type 0} (p : X → Bool) (xs : List X) (i : ℕ) (d : X) → i < length xs → p (get_or xs i d) ≡ true → ((k : ℕ) → k < i → p (get_or xs k d) ≡ false) → position p xs ≡ Some i
@@ -24,6 +20,10 @@ pub position_none : {X : Type 0} (p : X → Bool) (xs : List X) (d : X) → ((k 
 position_none p xs d none =
     let is : position_or_len p xs ≡ length xs = position_or_len_is p xs (length xs) d (omega arith) none (λ l. absurd (omega (arith, l))) in
     ap (λ n. cond (nat_lt n (length xs)) (Some n) None) is ∙ ap (λ b. cond b (Some (length xs)) None) (le-ltb (length xs) (length xs) (omega arith))
+
+pub none_passes_in : {X : Type 0} (p : X → Bool) (xs : List X) → ((k : ℕ) (d : X) → k < length xs → p (get_or xs k d) ≡ false) → position p xs ≡ None
+none_passes_in p [] none = refl
+none_passes_in p (x ∷ xs) none = position_none p (x ∷ xs) x (λ k. none k x)
 
 -- a number and i more, modulo s
 module _ (s f i : ℕ) (l : i < s) where
@@ -87,53 +87,55 @@ number_at g (x ∷ xs) next zero d h l =
     omega (arith, n, len)
 number_at g (x ∷ xs) next (suc i) d h l = let rest = number_at g xs next i d h.1 (omega (arith, l)) in omega (arith, rest)
 
--- tasks xs with consecutive numbers, the oldest x, on s slaves
-module _ {X : Type 0} (g : X → Shown) (s j next : ℕ) (xs : List X) (x : X) (few : length xs ≤ s) (numbers : AreNumbered next (map task_modelled (map g xs))) (some : 0 < length xs) (front : x ≡ get_or xs 0 x) where
+-- there were no fewer tasks than live
+pub few_live : {X : Type 0} (g : X → Shown) (xs : List X) (next : ℕ) → AreNumbered next (map task_modelled (map g xs)) → length xs ≤ next
+few_live g [] next h = omega arith
+few_live g (x ∷ xs) next h =
+    let n = h.0 in
+    let len : length (map task_modelled (map g xs)) ≡ length xs = length-map (map g xs) task_modelled ∙ length-map xs g in
+    omega (arith, n, len)
+
+-- tasks xs with consecutive numbers, the oldest of number f, on s slaves
+module _ {X : Type 0} (g : X → Shown) (s j next f : ℕ) (xs : List X) (few : length xs ≤ s) (numbers : AreNumbered next (map task_modelled (map g xs))) (first : f + length xs ≡ next) where
   abbrev runs : X → Bool
   runs t = is_run_by s j (g t)
 
   abbrev place : ℕ
-  place = place_of s (g x).number j
+  place = place_of s f j
 
-  number_is : (i : ℕ) → i < length xs → (g (get_or xs i x)).number ≡ (g x).number + i
-  number_is i l =
-      let first = number_at g xs next 0 x numbers some in
-      let this = number_at g xs next i x numbers l in
-      let is = ap (λ (t : X). (g t).number) front in
-      omega (arith, first, this, is)
+  number_is : (i : ℕ) (d : X) → i < length xs → (g (get_or xs i d)).number ≡ f + i
+  number_is i d l = let this = number_at g xs next i d numbers l in omega (arith, first, this)
 
   -- a slave that there is not runs none
   pub none_beyond : s ≤ j → position runs xs ≡ None
-  none_beyond far = position_none runs xs x (λ k l.
-      let r = mod_below (g (get_or xs k x)).number s (omega (arith, few, some)) in
-      ap (λ b. b && not (is_some (g (get_or xs k x)).ending)) (ne_eqb ((g (get_or xs k x)).number % s) j (λ e. omega (arith, e, r, far))))
+  none_beyond far = none_passes_in runs xs (λ k d l.
+      let r = mod_below (g (get_or xs k d)).number s (omega (arith, few, l)) in
+      ap (λ b. b && not (is_some (g (get_or xs k d)).ending)) (ne_eqb ((g (get_or xs k d)).number % s) j (λ e. omega (arith, e, r, far))))
 
   module _ (slave : j < s) where
-    elsewhere : (k : ℕ) → k < length xs → (k ≡ place → ⊥) → runs (get_or xs k x) ≡ false
-    elsewhere k l other =
-        ap (λ b. b && not (is_some (g (get_or xs k x)).ending))
-        (ne_eqb ((g (get_or xs k x)).number % s) j (λ e. other (only_there s (g x).number j slave k (omega (arith, l, few)) (ap (λ n. n % s) (sym (number_is k l)) ∙ e))))
+    elsewhere : (k : ℕ) (d : X) → k < length xs → (k ≡ place → ⊥) → runs (get_or xs k d) ≡ false
+    elsewhere k d l other =
+        ap (λ b. b && not (is_some (g (get_or xs k d)).ending))
+        (ne_eqb ((g (get_or xs k d)).number % s) j (λ e. other (only_there s f j slave k (omega (arith, l, few)) (ap (λ n. n % s) (sym (number_is k d l)) ∙ e))))
 
-    there : place < length xs → runs (get_or xs place x) ≡ not (is_some (g (get_or xs place x)).ending)
-    there l =
-        ap (λ b. b && not (is_some (g (get_or xs place x)).ending))
-        (eq-eqb ((g (get_or xs place x)).number % s) j (ap (λ n. n % s) (number_is place l) ∙ meets_there s (g x).number j slave))
+    there : (d : X) → place < length xs → runs (get_or xs place d) ≡ not (is_some (g (get_or xs place d)).ending)
+    there d l =
+        ap (λ b. b && not (is_some (g (get_or xs place d)).ending))
+        (eq-eqb ((g (get_or xs place d)).number % s) j (ap (λ n. n % s) (number_is place d l) ∙ meets_there s f j slave))
 
     -- the task at the place runs, or is done; or there is none at it
     pub runs_there : (t : X) → place < length xs → t ≡ get_or xs place t → is_some (g t).ending ≡ false → position runs xs ≡ Some place
     runs_there t l at going =
-        let same = get_or_default xs place x t l in
-        position_at runs xs place x l
-        (there l ∙ ap (λ (y : X). not (is_some (g y).ending)) (same ∙ sym at) ∙ ap not going)
-        (λ k b. elsewhere k (omega (arith, l, b)) (λ e. omega (arith, e, b)))
+        position_at runs xs place t l
+        (there t l ∙ ap (λ (y : X). not (is_some (g y).ending)) (sym at) ∙ ap not going)
+        (λ k b. elsewhere k t (omega (arith, l, b)) (λ e. omega (arith, e, b)))
 
     pub done_there : (t : X) → place < length xs → t ≡ get_or xs place t → is_some (g t).ending ≡ true → position runs xs ≡ None
     done_there t l at done =
-        let same = get_or_default xs place x t l in
-        position_none runs xs x (λ k h. elim (cases_eq k place) [
-          | inl e ↦ ap (λ n. runs (get_or xs n x)) e ∙ there l ∙ ap (λ (y : X). not (is_some (g y).ending)) (same ∙ sym at) ∙ ap not done
-          | inr e ↦ elsewhere k h e
+        position_none runs xs t (λ k h. elim (cases_eq k place) [
+          | inl e ↦ ap (λ n. runs (get_or xs n t)) e ∙ there t l ∙ ap (λ (y : X). not (is_some (g y).ending)) (sym at) ∙ ap not done
+          | inr e ↦ elsewhere k t h e
         ])
 
     pub none_there : length xs ≤ place → position runs xs ≡ None
-    none_there far = position_none runs xs x (λ k h. elsewhere k h (λ e. omega (arith, e, h, far)))
+    none_there far = none_passes_in runs xs (λ k d h. elsewhere k d h (λ e. omega (arith, e, h, far)))

@@ -54,6 +54,7 @@ impl<M: Memory> Stage<M> {
     ghost use Rattle.engine.specs.Shown.{shown, AreTasksOf, Does, IsCostly, begun, due_at};
 
     /// Speculation begins where the machine stands, if no step is owed and an anchor is there.
+    #[inline(never)]
     pub(crate) fn restart(&mut self, alloc: Global) -> Result<Effect, AllocError>
         requires image { IsImage self.old.image }
         requires tasks { ∥ AreTasksOf self.old.image (shown M.at self.old).tasks ∥₁ }
@@ -101,6 +102,7 @@ impl<M: Memory> Stage<M> {
     }
 
     /// An event of the master, if it runs.
+    #[inline(never)]
     pub(crate) fn drive(&mut self, alloc: Global) -> Result<Effect, AllocError>
         requires image { IsImage self.old.image }
         requires tasks { ∥ AreTasksOf self.old.image (shown M.at self.old).tasks ∥₁ }

@@ -114,6 +114,7 @@ impl<M: Memory> Engine<M> {
     ///
     /// Want of memory alone. Nothing has changed then, and nothing was counted. An event that is
     /// idle, stalls or squashes takes no memory.
+    #[inline(always)]
     pub fn event(&mut self, alloc: Global, e: Event) -> Result<Effect, AllocError>
         requires { (model_of M.at self.old).counts.events < 2 ^ 64 - 1 }
         // The effect and the model are those of the definition.

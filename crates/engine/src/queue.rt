@@ -75,6 +75,7 @@ impl<M: Memory> Stage<M> {
     ghost use Rattle.engine.specs.Shown.{shown, tasks_modelled, AreTasksOf, Does, IsCostly, retired, dropped_of};
 
     /// A step of the machine, unless tasks or the master run ahead.
+    #[inline(never)]
     pub(crate) fn step(&mut self, alloc: Global) -> Result<Effect, AllocError>
         requires running { IsNone self.old.machine.end }
         requires room { self.old.machine.position < 2 ^ 64 - 1 }
@@ -102,14 +103,13 @@ impl<M: Memory> Stage<M> {
         requires numbers { AreNumbered self.now.next (tasks_modelled (shown M.at self.now).tasks) }
         ensures { result ≡ position (λ t. is_run_by self.now.slaves slave (task_shown M.at t)) self.now.tasks.items }
     {
-        let Some(oldest) = self.tasks.front() else {
-            return None;
-        };
         if self.slaves <= slave {
             return None;
         }
-        let place = place_of(self.slaves, oldest.number(), slave) as usize;
-        if self.tasks.len() <= place {
+        let live = self.tasks.len();
+        let oldest = self.next - live as u64;
+        let place = place_of(self.slaves, oldest, slave) as usize;
+        if live <= place {
             return None;
         }
         match self.tasks[place].ending() {

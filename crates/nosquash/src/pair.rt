@@ -61,6 +61,7 @@ impl<M: Memory> Pair<M> {
     /// # Errors
     ///
     /// Want of memory alone. Nothing has changed then.
+    #[inline(always)]
     pub fn event(&mut self, alloc: Global, e: Event) -> Result<Effect, AllocError>
         requires { (model_of M.at self.old.engine).counts.events < 2 ^ 64 - 1 }
         // It is the engine's event.
