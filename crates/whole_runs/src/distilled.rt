@@ -132,7 +132,9 @@ fn an_input_that_breaks_the_list_drops_a_task(rt: HostRuntime) -> Result<(), Fai
 }
 
 #[test]
-fn a_byte_that_a_write_call_alone_reads_is_put_beside_an_image(rt: HostRuntime) -> Result<(), Fail> {
+fn a_byte_that_a_write_call_alone_reads_is_put_beside_an_image(
+    rt: HostRuntime,
+) -> Result<(), Fail> {
     let alloc = rt.alloc();
     let over = |image: Vec<u8>| -> Result<Files, AllocError> {
         Ok(Files {
@@ -143,7 +145,13 @@ fn a_byte_that_a_write_call_alone_reads_is_put_beside_an_image(rt: HostRuntime) 
         })
     };
     let profile = perform_over(alloc, &["profile", "p", "r"], over(Vec::new(alloc))?, SURE)?;
-    let image = perform_over(alloc, &["distill", "p", "m", "r"], over(profile.report)?, SURE)?.report;
+    let image = perform_over(
+        alloc,
+        &["distill", "p", "m", "r"],
+        over(profile.report)?,
+        SURE,
+    )?
+    .report;
     let shown = perform_over(alloc, &["show", "m"], over(image.clone()?)?, SURE)?;
     let list: &[u8] = b"\ndead 00010008\ncode\nwithin\nspan\n";
     assert!(rt; shown.out.ends_with(list));

@@ -14,9 +14,7 @@ static CALLS: [(&[&str], &[&str]); 9] = [
     (&["run", "p", "--input", "i"], &["p", "i"]),
     (&["run", "p", "--report", "r"], &["p", "r"]),
     (
-        &[
-            "run", "p", "--input", "i", "--image", "m", "--report", "r",
-        ],
+        &["run", "p", "--input", "i", "--image", "m", "--report", "r"],
         &["p", "m", "i", "r"],
     ),
     (
