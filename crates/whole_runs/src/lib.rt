@@ -1,14 +1,6 @@
-//! Whole runs, from the words of a command to its bytes and its status: the tests that cross crates.
+//! Whole runs, from the words of a command to its bytes and its status: runs, replays, reports and images shown.
 #![tactic(auto)]
 
-#[cfg(test)]
-mod distilled;
-#[cfg(test)]
-mod faults;
-#[cfg(test)]
-mod hostile;
-#[cfg(test)]
-mod profiles;
 #[cfg(test)]
 mod replays;
 #[cfg(test)]

@@ -1,0 +1,12 @@
+//! Whole runs, from the words of a command to its bytes and its status: profiles, images made of them and their checks, images that
+//! mean no good, and faults of store and output, call by call.
+#![tactic(auto)]
+
+#[cfg(test)]
+mod distilled;
+#[cfg(test)]
+mod faults;
+#[cfg(test)]
+mod hostile;
+#[cfg(test)]
+mod profiles;
