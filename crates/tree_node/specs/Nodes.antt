@@ -3,7 +3,6 @@ use Rattle.std.specs.Prelude.{ℕ, List, [], ◌++◌, ◌+◌, length, take, dr
 use Rattle.std.specs.Global.{Global}
 use Rattle.std.specs.declared.rc.Rc.{Rc}
 use Rattle.tree_node.specs.declared.node.Children.{Children}
-use Rattle.tree_node.specs.declared.node.Bytes.{Bytes}
 use Rattle.tree_node.specs.declared.node.Node.{Node, out-Node}
 use Rattle.tree_node.specs.declared.node.Node.TheOpen.{Node-F, Inner, Leaf}
 

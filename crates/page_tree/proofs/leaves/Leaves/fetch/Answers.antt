@@ -1,4 +1,4 @@
-use Rattle.std.proofs.Common.{rules, ◌/◌, sym, ap, ◌∙◌}
+use Rattle.std.proofs.Common.{rules, ◌∙◌}
 use Rattle.tree_node.specs.Nodes.{owned}
 use Rattle.page_tree.specs.Paths.{leaf_below}
 use Rattle.page_tree.specs.Shown.{in_front}

@@ -1,4 +1,4 @@
-use Rattle.std.proofs.Common.{rules, arith, length, refl, ◌≡◌, ◌+◌, ◌%◌, ◌⊎◌, inl, inr, ⊎_elim}
+use Rattle.std.proofs.Common.{rules, arith, length, refl, inl, inr, ⊎_elim}
 use Rattle.std.proofs.lemmas.Grind.{common_steps}
 use Rattle.std.proofs.lemmas.Bool.{cases_eq}
 use Rattle.page_tree.specs.Trees.{held}
