@@ -42,6 +42,24 @@ def written_out(file: Path) -> list[str]:
     return events
 
 
+def reached_at(lines: list[str], slaves: int, position: int) -> int | None:
+    """How many events of rounds it takes until so many steps are committed or the run has ended, as their lines tell."""
+    length, at = slaves + 7, 0
+    if position == 0:
+        return 0
+    for start in range(0, len(lines), length):
+        serial, commit = lines[start + 1 : start + 2], lines[start + length - 1 : start + length]
+        if serial and serial[0] != "idle":
+            at += 1
+            if at >= position or serial[0].startswith("ended"):
+                return start + 2
+        if commit and commit[0].startswith("committed "):
+            at += int(commit[0].split()[1])
+            if at >= position:
+                return start + length
+    return None
+
+
 def save(text: str, file: str | None) -> None:
     """Writes a text to a file, or to standard output where none is named."""
     if file is None:

@@ -19,7 +19,7 @@ import tempfile
 from pathlib import Path
 
 sys.path[0] = str(Path(__file__).resolve().parent.parent)
-from view.lists import MOST, drawn, round_of, save, text_of, written_out  # noqa: E402
+from view.lists import MOST, drawn, reached_at, round_of, save, text_of, written_out  # noqa: E402
 from view.program import BUILT, Mssp, Refused, end_with, input_words  # noqa: E402
 from view.story import SUMMARY  # noqa: E402
 
@@ -32,24 +32,6 @@ def lines_of(mssp: Mssp, words: argparse.Namespace, events: str) -> tuple[list[s
     lines = put.decode("latin-1").split("\n")
     end = next(at for at in range(len(lines)) if lines[at].startswith("position "))
     return lines[:end], lines[end : end + len(SUMMARY)]
-
-
-def reached_at(lines: list[str], slaves: int, position: int) -> int | None:
-    """How many events of rounds it takes until so many steps are committed or the run has ended, as their lines tell."""
-    length, at = slaves + 7, 0
-    if position == 0:
-        return 0
-    for start in range(0, len(lines), length):
-        serial, commit = lines[start + 1 : start + 2], lines[start + length - 1 : start + length]
-        if serial and serial[0] != "idle":
-            at += 1
-            if at >= position or serial[0].startswith("ended"):
-                return start + 2
-        if commit and commit[0].startswith("committed "):
-            at += int(commit[0].split()[1])
-            if at >= position:
-                return start + length
-    return None
 
 
 def rounds_to(mssp: Mssp, words: argparse.Namespace) -> list[str]:
