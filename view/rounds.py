@@ -73,7 +73,8 @@ def events_of(words: argparse.Namespace) -> list[str]:
     count = words.rounds * (words.slaves + 7)
     if count > MOST:
         raise Refused(f"{count} events, and a list has at most {MOST}", 2)
-    return round_of(words.slaves) * words.rounds if words.seed is None else drawn(words.slaves, count, words.seed)
+    rounds: int = words.rounds
+    return round_of(words.slaves) * rounds if words.seed is None else drawn(words.slaves, count, words.seed)
 
 
 def words_of() -> argparse.Namespace:

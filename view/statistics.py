@@ -180,6 +180,7 @@ def measured(mssp: Mssp, guests: list[Guest], budget: int) -> dict[str, dict[tup
 
 
 def spelled(value: float | None, digits: int) -> str:
+    """A figure with so many digits, or a dash where there is none."""
     return "–" if value is None else f"{value:,.{digits}f}"
 
 
