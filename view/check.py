@@ -314,6 +314,7 @@ class Refusals(Rooms):
     """What can't be done is told in one line, with the status of `mssp`."""
 
     def refused(self, status: int, line: str, *words: str | Path, mssp: Path | None = None) -> None:
+        """Both scripts refuse a program, an image and a list with this status and line, and write nothing."""
         for name, more in (("replay.py", ("-o", str(self.room / "page.html"))), ("rounds.py", ("--squeeze", str(words[2])))):
             given = (*words, *more) if name == "replay.py" else (*more, *words[:2])
             ran = script(name, *given, mssp=mssp)
@@ -343,6 +344,12 @@ class Refusals(Rooms):
         self.refused(
             113, "mssp: sink fault", COUNT, LAZY, EVENTS, mssp=self.stub("echo stepped; echo 'mssp: sink fault' >&2; exit 113")
         )
+
+    def test_more_than_is_held(self) -> None:
+        events = self.room / "many"
+        events.write_text("1 serial\n90000000 master\n")
+        line = f"{events}: 90,000,001 events, and at most 10,000,000 are held here"
+        self.refused(2, line, COUNT, LAZY, events)
 
     def test_not_built(self) -> None:
         none = self.room / "none"

@@ -66,7 +66,7 @@ function bar(number, from, to) {
 function label(number, from, to) {
   const task = D.tasks[number], text = task[T.pc] ? `${number} from ${task[T.pc]}${place(task[T.pc])}` : String(number);
   const short = to - from > 8 + 6.6 * text.length ? text : String(number);
-  if (to - from < 5 + 6.3 * short.length) return "";
+  if (to - from < 9 + 6.3 * short.length) return "";
   const y = laneTop(2 + task[T.slave]) + 17;
   return `<text class="inside" x="${px(Math.max(from, LEFT) + 4)}" y="${y}">${escaped(short)}</text>`;
 }
