@@ -68,7 +68,8 @@ function label(number, from, to) {
   const short = to - from > 8 + 6.6 * text.length ? text : String(number);
   if (to - from < 9 + 6.3 * short.length) return "";
   const y = laneTop(2 + task[T.slave]) + 17;
-  return `<text class="inside" x="${px(Math.max(from, LEFT) + 4)}" y="${y}">${escaped(short)}</text>`;
+  const pale = task[T.done] !== null && x(task[T.done] + 1) - Math.max(from, LEFT) < 4 + 6.3 * short.length;
+  return `<text class="inside${pale ? " dark" : ""}" x="${px(Math.max(from, LEFT) + 4)}" y="${y}">${escaped(short)}</text>`;
 }
 
 function link(number, from) {
@@ -149,9 +150,19 @@ function marks() {
   }).join("");
 }
 
+// the cell of a squash and both values, each with its name where it is an address
+function parts(task) {
+  const [, cell, predicted, found] = task[T.line].match(/^squashed (.*) predicted (\S+) found (\S+)$/);
+  const at = (value) => (cell === "pc" ? place(value) : "");
+  const named = cell.startsWith("byte ") ? place(cell.slice(5)) : "";
+  return [[cell, named], [predicted, at(predicted)], [found, at(found)]];
+}
+
 function squashText([task, number]) {
-  const cell = task[T.line].replace(/^squashed /, "").replace(/ predicted/, ": predicted").replace(/ found/, ", found");
-  return `squashed task ${number}${task[T.pc] ? ` from ${task[T.pc]}${place(task[T.pc])}` : ""}, ${cell}`;
+  const [[cell, named], [value], [other, at]] = parts(task);
+  const said = `${cell}${named}: predicted ${value}, found ${other}${at}`;
+  const start = task[T.pc] ? ` from ${task[T.pc]}${place(task[T.pc])}` : "";
+  return `squashed task ${number}${start}, ${said}`;
 }
 
 function notes() {
@@ -162,8 +173,10 @@ function notes() {
   }
   return seen.map((one, row) => {
     const at = x(one[0][T.ended] + 0.5), left = at < width / 2, y = lanesEnd - (noteRows - row) * NOTES + 12;
-    const from = px(Math.min(width - RIGHT, at + (left ? -6 : 6))), anchor = left ? "start" : "end";
-    return `<text class="squashed" text-anchor="${anchor}" x="${from}" y="${y}">${escaped(squashText(one))}</text>`;
+    const text = squashText(one), long = 6.8 * text.length;
+    const from = left ? Math.min(at - 6, width - RIGHT - long) : Math.max(at + 6, 4 + long);
+    const where = `text-anchor="${left ? "start" : "end"}" x="${px(left ? Math.max(4, from) : Math.min(width - 4, from))}"`;
+    return `<text class="squashed" ${where} y="${y}">${escaped(text)}</text>`;
   }).join("");
 }
 
@@ -339,12 +352,10 @@ function tableOfSquashes() {
   const section = document.getElementById("squashes"), most = 500;
   if (!squashes.length) { section.innerHTML = "<h2>No task was squashed</h2>"; return; }
   const rows = squashes.slice(0, most).map(([task, n]) => {
-    const [, cell, predicted, found] = task[T.line].match(/^squashed (.*) predicted (\S+) found (\S+)$/);
-    const where = cell.startsWith("byte ") ? place(cell.slice(5)) : "";
+    const values = parts(task).map(([value, name]) => `<code>${value}</code>${escaped(name)}`);
     const cells = [
       number(task[T.ended]), n, `<code>${task[T.pc] || "not told"}</code>${escaped(place(task[T.pc]))}`,
-      `<code>${cell}</code>${escaped(where)}`,
-      `<code>${predicted}</code>`, `<code>${found}</code>`, number(task[T.position]), number(task[T.steps]),
+      ...values, number(task[T.position]), number(task[T.steps]),
     ];
     return `<tr class="row" data-event="${task[T.ended]}">${cells.map((text) => `<td>${text}</td>`).join("")}</tr>`;
   });

@@ -74,9 +74,9 @@ def list_of(words: argparse.Namespace) -> str:
     count, most = words.rounds * (words.slaves + 7), MOST if words.seed is None else MOST_HELD
     if count > most:
         raise Refused(f"{count:,} events, and at most {most:,} can be asked for", 2)
-    return (
-        text_of(round_of(words.slaves)) * words.rounds if words.seed is None else text_of(drawn(words.slaves, count, words.seed))
-    )
+    if words.seed is None:
+        return "".join([text_of(round_of(words.slaves))] * words.rounds)
+    return text_of(drawn(words.slaves, count, words.seed))
 
 
 def words_of() -> argparse.Namespace:
