@@ -73,6 +73,8 @@ REPOSITORY = Path(__file__).resolve().parent.parent
 EXAMPLES = REPOSITORY / "examples"
 PROGRAMS = ("mix", "shuffle")
 WINDOW = (2_000_000, 3_000_000)
+# queens ends after 2,009,742 instructions
+EARLIER = (1_000_000, 2_000_000)
 
 # adds 1 to x5 and jumps back to that
 LOOP = (0x00128293, 0xFFDFF06F)
@@ -455,12 +457,12 @@ def show_hostile(binary):
             show(f"profile, {count} targets, descending", ["profile", file, image])
 
 
-def committed_for_each(binary, file, image, slaves, folder):
+def committed_for_each(binary, file, image, slaves, folder, window):
     """The host instructions of a run beside an image for each committed instruction. A run may
     pass its budget by a task, so the report tells how many there were."""
     report = os.path.join(folder, "report")
     counts = []
-    for budget in WINDOW:
+    for budget in window:
         words = [binary, "run", file, "--image", image, "--slaves", str(slaves), "--report", report]
         host = host_instructions([*words, "--budget", str(budget)])
         told = dict(line.rsplit(" ", 1) for line in Path(report).read_text().splitlines())
@@ -499,8 +501,10 @@ def figures(binary):
             profile, image = (os.path.join(folder, kind) for kind in ("profile", "distilled"))
             subprocess.run([binary, "profile", str(file), profile], check=True)
             subprocess.run([binary, "distill", str(file), profile, image], check=True)
+            window = WINDOW if name in PROGRAMS else EARLIER
             for slaves in (4, 16, 64):
-                yield f"run --image {name}, slaves {slaves}", committed_for_each(binary, str(file), image, slaves, folder)
+                yield (f"run --image {name}, slaves {slaves}",
+                       committed_for_each(binary, str(file), image, slaves, folder, window))
 
 
 def rows_of_the_map():

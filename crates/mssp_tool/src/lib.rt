@@ -14,6 +14,6 @@ mod run;
 mod show;
 mod speculating;
 mod top;
-mod trial;
+mod drawn;
 
 pub use top::mssp;

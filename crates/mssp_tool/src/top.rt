@@ -12,7 +12,7 @@ use crate::profile::profile;
 use crate::replay::replay;
 use crate::run::run;
 use crate::show::show;
-use crate::trial::trial;
+use crate::drawn::trial;
 use command_line::{Command, read_command};
 use outside::{Sink, SinkErr, Store};
 use std::alloc::Global;
