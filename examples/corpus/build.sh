@@ -19,7 +19,8 @@ mkdir -p "$target"
 grep -v '^#' programs.txt | while read -r name source flags; do
   # (the flags are several words)
   case $flags in
-    bare*) "${compiler[@]}" -nostdlib -nostartfiles -static -Wl,--no-relax "${quiet[@]}" ${flags#bare} "src/$source" -o "$target/$name.elf" ;;
+    bare*) "${compiler[@]}" -nostdlib -nostartfiles -static -Wl,--no-relax "${quiet[@]}" ${flags#bare} \
+             "src/$source" -o "$target/$name.elf" ;;
     *) "${compiler[@]}" "${library[@]}" -static -nostartfiles -T guest/guest.ld "${quiet[@]}" -Wl,--strip-debug "$room/crt0.o" \
          -Wall -Wextra $flags "src/$source" -lm "$room/sys.o" -o "$target/$name.elf" ;;
   esac

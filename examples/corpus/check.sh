@@ -1,6 +1,7 @@
 #!/bin/bash
 # check.sh BINARY [--beside]   runs the cases of cases.txt by the mssp program BINARY
 # check.sh --qemu              runs them by qemu-riscv32
+# check.sh --plain             runs them by the plain interpreter bench/interpreter.c, and compares the counts of steps
 #
 # A case is a line of cases.txt: its name, its program elf/PROGRAM.elf, its input in/INPUT or none, its
 # status, and how many steps its run has. The output has to be that of expect/CASE.out, and nothing may go
@@ -14,11 +15,14 @@
 #
 # It prints a line for each case. Status: 0 all passed, 1 some failed, 2 wrong words, 77 nothing was run.
 
-usage() { echo "check.sh BINARY [--beside]"; echo "check.sh --qemu"; } >&2
+usage() { echo "check.sh BINARY [--beside]"; echo "check.sh --qemu"; echo "check.sh --plain"; } >&2
 case "$#:$1:$2" in
   1:--qemu:)
     command -v qemu-riscv32 >/dev/null || { echo "check.sh: skipped: qemu-riscv32 isn't installed"; exit 77; }
     binary= way=qemu ;;
+  1:--plain:)
+    command -v gcc >/dev/null || { echo "check.sh: skipped: gcc isn't installed"; exit 77; }
+    binary= way=plain ;;
   1:?*: | 2:?*:--beside)
     binary=$(realpath -- "$1") way=${2:-alone}
     [ -f "$binary" ] && [ -x "$binary" ] || { echo "check.sh: $1 is no program" >&2; exit 2; } ;;
@@ -29,6 +33,9 @@ cd "$(dirname "$0")" || exit 2
 room=$(mktemp -d) || exit 2
 trap 'rm -rf "$room"' EXIT
 most=3000000
+if [ $way = plain ]; then
+  gcc -O2 -Wall -Wextra -o "$room/interpreter" ../../bench/interpreter.c || exit 1
+fi
 
 # what was done has the status and the output of the case; otherwise says how it differs
 as_recorded() {
@@ -50,6 +57,13 @@ by_qemu() {
   status=$?
   : >"$room/err"
   as_recorded
+}
+
+by_interpreter() {
+  "$room/interpreter" run "$program" "${words[@]}" --steps "$room/steps" >"$room/out" 2>"$room/err" </dev/null
+  status=$?
+  as_recorded || return 1
+  [ "$(<"$room/steps")" = "$steps" ] || { echo "$(<"$room/steps") steps for $steps"; return 1; }
 }
 
 alone() {
@@ -87,7 +101,7 @@ while read -r name program input wanted steps; do
   program=elf/$program.elf words=()
   if [ "$input" = - ]; then input=; else input=in/$input; words=(--input "$input"); fi
   echo -n "$name: "
-  case $way in qemu) by_qemu ;; --beside) beside ;; *) alone ;; esac
+  case $way in qemu) by_qemu ;; plain) by_interpreter ;; --beside) beside ;; *) alone ;; esac
   if [ $? = 0 ]; then passed=$((passed + 1)); echo passed; else failed=$((failed + 1)); fi
 done < <(grep -v '^#' cases.txt)
 
