@@ -24,11 +24,13 @@ def _panel(axes: Axes, programs: list[str], labels: list[str], rows: list[Row], 
         heights = [value or 0 for value in values]
         axes.bar(places, heights, wide, color=SHADES[at % 3], label=label)
         if above is not None:
-            axes.bar(places, [value or 0 for value in above[at]], wide, bottom=heights, color=PALES[at % 3], label=f"{label}, dropped")
+            axes.bar(
+                places, [value or 0 for value in above[at]], wide, bottom=heights, color=PALES[at % 3], label=f"{label}, dropped"
+            )
         for place, value in zip(places, values):
             if value is None:
                 axes.annotate("–", (place, 0), ha="center", va="bottom", fontsize=7, color="#596273")
-    axes.set_xticks(range(len(programs)), programs, rotation=45, ha="right")
+    axes.set_xticks(range(len(programs)), programs, rotation=45, ha="right", rotation_mode="anchor")
     axes.set_title(title, fontsize=9, loc="left")
     axes.legend(frameon=False, fontsize=7)
     axes.tick_params(length=0)

@@ -17,8 +17,19 @@ MOST_BLOCKS = 40
 MOST_REMARKS = 60
 # what a line is drawn as, from what tells least to what tells most
 SIGNS = {
-    "idle": ".", "moved": "+", "stepped": "+", "stalled": "s", "done reached": "R", "done full": "U", "done met": "M",
-    "committed": "C", "forked": "F", "started": "S", "halted": "H", "squashed": "X", "ended": "E",
+    "idle": ".",
+    "moved": "+",
+    "stepped": "+",
+    "stalled": "s",
+    "done reached": "R",
+    "done full": "U",
+    "done met": "M",
+    "committed": "C",
+    "forked": "F",
+    "started": "S",
+    "halted": "H",
+    "squashed": "X",
+    "ended": "E",
 }
 RANKS = {name: rank for rank, name in enumerate(SIGNS)}
 LEGEND = (

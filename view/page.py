@@ -28,8 +28,18 @@ def lane_of(event: str, slaves: int) -> int:
 
 def _task_row(task: Task) -> list[object]:
     return [
-        task.slave, task.begun, task.done, task.ended, FATES.index(task.fate), task.steps, task.pc, task.ending, task.line,
-        task.behind, int(task.restarted), task.position,
+        task.slave,
+        task.begun,
+        task.done,
+        task.ended,
+        FATES.index(task.fate),
+        task.steps,
+        task.pc,
+        task.ending,
+        task.line,
+        task.behind,
+        int(task.restarted),
+        task.position,
     ]
 
 

@@ -17,9 +17,17 @@ MOST = 400
 COLOURS = {"committed": "#3a7d5b", "squashed": "#c0392b", "dropped": "#8b95a5", "alive": "#4a7fc1"}
 INK = "#1c2430"
 MARKS = {
-    "started": (">", "#2f5d9b"), "forked": ("^", "#2f5d9b"), "halted": ("s", "#c0392b"), "stalled": ("|", "#e0a030"),
-    "moved": ("o", "#6d7b90"), "stepped": ("o", "#6d7b90"), "committed": ("P", "#2d6a4b"), "squashed": ("X", "#c0392b"),
-    "ended": ("s", INK), "idle": (".", "#c3cad4"), "done": ("D", INK),
+    "started": (">", "#2f5d9b"),
+    "forked": ("^", "#2f5d9b"),
+    "halted": ("s", "#c0392b"),
+    "stalled": ("|", "#e0a030"),
+    "moved": ("o", "#6d7b90"),
+    "stepped": ("o", "#6d7b90"),
+    "committed": ("P", "#2d6a4b"),
+    "squashed": ("X", "#c0392b"),
+    "ended": ("s", INK),
+    "idle": (".", "#c3cad4"),
+    "done": ("D", INK),
 }
 
 
@@ -66,7 +74,8 @@ def _squashes(axes: Axes, story: Story, names: Names) -> int:
         if match is None or task.ended is None:
             continue
         place = f" {names.place(int(task.pc, 16))}".rstrip() if task.pc else ""
-        text = f"task {task.number}{' from ' + task.pc if task.pc else ''}{place} is squashed: {match[1]} was predicted {match[2]}, and found {match[3]}"
+        start = f" from {task.pc}{place}" if task.pc else ""
+        text = f"task {task.number}{start} is squashed: {match[1]} was predicted {match[2]}, and found {match[3]}"
         y = story.slaves + 3 + 0.7 * row
         left = task.ended < len(story.lines) / 2
         axes.text(task.ended + (0.2 if left else 0.8), y, text, color="#b3261e", va="center", ha="left" if left else "right")
@@ -89,7 +98,10 @@ def still(story: Story, names: Names, file: str) -> None:
     rows = _squashes(axes, story, names)
     axes.set_xlim(0, len(story.lines))
     axes.set_ylim(len(lanes) - 0.4 + 0.7 * rows, -0.6)
-    axes.set_yticks(range(len(lanes)), [f"{name}" + ("" if not 2 <= at < len(lanes) - 1 or at - 2 in used else " (no task)") for at, name in enumerate(lanes)])
+    axes.set_yticks(
+        range(len(lanes)),
+        [f"{name}" + ("" if not 2 <= at < len(lanes) - 1 or at - 2 in used else " (no task)") for at, name in enumerate(lanes)],
+    )
     axes.set_xticks([event + 0.5 for event in range(0, len(story.lines), max(1, len(story.lines) // 20))])
     axes.set_xticklabels([str(event) for event in range(0, len(story.lines), max(1, len(story.lines) // 20))])
     axes.set_xlabel("event")
@@ -102,7 +114,9 @@ def still(story: Story, names: Names, file: str) -> None:
 def save_figure(figure: plt.Figure, file: str) -> None:
     """Writes a figure without a date."""
     try:
-        figure.savefig(file, bbox_inches="tight", facecolor="white", metadata={"Date": None} if file.endswith(".svg") else None, dpi=150)
+        figure.savefig(
+            file, bbox_inches="tight", facecolor="white", metadata={"Date": None} if file.endswith(".svg") else None, dpi=150
+        )
     except (OSError, ValueError) as error:
         raise Refused(f"{file}: {error}", 2) from error
     finally:

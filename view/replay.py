@@ -34,14 +34,18 @@ def words_of() -> argparse.Namespace:
     parser.add_argument("events")
     parser.add_argument("-o", dest="page", metavar="page.html")
     parser.add_argument("--text", action="store_true")
-    parser.add_argument("--width", type=int, default=shutil.get_terminal_size().columns, help="of the lanes; that of the terminal")
+    parser.add_argument(
+        "--width", type=int, default=shutil.get_terminal_size().columns, help="of the lanes; that of the terminal"
+    )
     parser.add_argument("--first", type=int, default=0, metavar="E", help="the first event of the lanes")
     parser.add_argument("--last", type=int, metavar="E", help="the last event of the lanes")
     parser.add_argument("--trace", metavar="out.json")
     parser.add_argument("--picture", metavar="out.svg")
     parser.add_argument("--input", metavar="F")
     parser.add_argument("--slaves", type=int, default=4, choices=range(1, 65), metavar="N", help="1 to 64, 4 without it")
-    parser.add_argument("--mssp", type=Path, default=BUILT, metavar="BINARY", help=f"the built program, {BUILT.relative_to(BUILT.parents[3])}")
+    parser.add_argument(
+        "--mssp", type=Path, default=BUILT, metavar="BINARY", help=f"the built program, {BUILT.relative_to(BUILT.parents[3])}"
+    )
     words = parser.parse_args()
     if not (words.page or words.text or words.trace or words.picture):
         parser.error("one of -o, --text, --trace and --picture is wanted")

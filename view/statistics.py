@@ -77,13 +77,33 @@ class Figure:
 
 
 FIGURES = (
-    Figure("share", "Steps committed by tasks", "% of the committed steps", 2, lambda m: share(100 * m.of("by-tasks"), m.of("position"))),
+    Figure(
+        "share",
+        "Steps committed by tasks",
+        "% of the committed steps",
+        2,
+        lambda m: share(100 * m.of("by-tasks"), m.of("position")),
+    ),
     Figure("length", "Steps a task", "steps of a committed task, mean", 1, lambda m: share(m.of("by-tasks"), m.of("tasks"))),
-    Figure("squashed", "Squashed and dropped tasks", "of 1,000 tasks begun", 1, lambda m: share(1000 * m.of("squashed"), m.begun),
-           lambda m: share(1000 * m.of("dropped"), m.begun)),
-    Figure("slots", "Slots of the master a committed step", "slots a committed step", 3, lambda m: share(m.slots, m.of("position"))),
+    Figure(
+        "squashed",
+        "Squashed and dropped tasks",
+        "of 1,000 tasks begun",
+        1,
+        lambda m: share(1000 * m.of("squashed"), m.begun),
+        lambda m: share(1000 * m.of("dropped"), m.begun),
+    ),
+    Figure(
+        "slots", "Slots of the master a committed step", "slots a committed step", 3, lambda m: share(m.slots, m.of("position"))
+    ),
     Figure("words", "Words kept of the words analysed", "% of the analysed words", 1, lambda m: share(100 * m.kept, m.analysed)),
-    Figure("live", "Registers live where tasks may begin", "registers at an anchor, mean", 1, lambda m: share(sum(m.live), len(m.live))),
+    Figure(
+        "live",
+        "Registers live where tasks may begin",
+        "registers at an anchor, mean",
+        1,
+        lambda m: share(sum(m.live), len(m.live)),
+    ),
     Figure("events", "Events a committed step", "events a committed step", 2, lambda m: share(m.events, m.of("position"))),
 )
 
@@ -129,7 +149,16 @@ def measure(mssp: Mssp, guest: Guest, profile: Path, room: Path, setting: tuple[
     image, rare, goal = room / "image", str(setting[0]), str(setting[1])
     mssp.call("distill", guest.file, profile, image, "--rare", rare, "--goal", goal)
     words = ["--budget", str(budget), "--slaves", str(SLAVES), *input_words(guest.input)]
-    mssp.call("run", guest.file, "--image", image, "--report", room / "report", *words, passing=tuple(range(110)) + (120, 121) + tuple(range(122, 256)))
+    mssp.call(
+        "run",
+        guest.file,
+        "--image",
+        image,
+        "--report",
+        room / "report",
+        *words,
+        passing=tuple(range(110)) + (120, 121) + tuple(range(122, 256)),
+    )
     report = dict(line.split(" ", 1) for line in (room / "report").read_text().splitlines())
     lines = replayed(mssp, guest, image, room, budget)
     counts = Counter(line.split(" ", 1)[0] for line in lines)

@@ -29,11 +29,12 @@ class Names:
     parts: list[tuple[int, bytes]] = field(default_factory=list)
 
     def place(self, address: int) -> str:
-        """The function or the data at an address, with the distance, and the line of the source; empty where unknown."""
-        named = _within(self.functions, address) or _within(self.data, address)
+        """The function and the line of the source, or the data, at an address; empty where unknown."""
+        if not any(start <= address < start + len(part) for start, part in self.parts):
+            return _within(self.data, address)
         at = bisect_right(self.sources, (address, "\uffff"))
         line = self.sources[at - 1][1] if at else ""
-        return " ".join(part for part in (named, line if _within(self.functions, address) or not self.functions else "") if part)
+        return " ".join(part for part in (_within(self.functions, address), line) if part)
 
     def words(self, pc: int, count: int) -> list[str]:
         """So many words of the code from a pc on, as assembly where a disassembler is there."""
@@ -99,7 +100,7 @@ def _symbols(elf: object, names: Names) -> None:
         in_code = any(start <= address < start + len(part) for start, part in names.parts)
         if kind in ("STT_FUNC", "STT_NOTYPE") and in_code:
             names.functions.append((address, symbol["st_size"], symbol.name))
-        elif kind == "STT_OBJECT":
+        elif kind == "STT_OBJECT" and symbol["st_size"]:
             names.data.append((address, symbol["st_size"], symbol.name))
     names.functions.sort()
     names.data.sort()
