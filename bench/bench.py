@@ -6,12 +6,11 @@ time, user and system, of N runs (3).  Each run's output and status are compared
 those that stand in examples/expected.
 
 BINARY is the mssp program.  Without it crates/mssp/out/mssp is taken, which `rt run` in
-crates/mssp makes.  Nothing of this repository is built.
+crates/mssp makes; it isn't built here.
 
-Where the folder PEERS (an environment variable; ../shared/peers beside this repository
-if it isn't set) has a bench.py, its plain C interpreter stands beside mssp, and so does
-qemu-riscv32, where it is installed: as it comes, translating blocks of code, and with
-one instruction in each block.
+The plain interpreter bench/interpreter.c is built and stands beside mssp, where gcc is installed, and so
+does qemu-riscv32, where that is: as it comes, translating blocks of code, and with one
+instruction in each block.
 
 --callgrind counts, by valgrind, host instructions for each guest instruction, which don't
 depend on the load of the machine.  It takes the difference of two runs that a budget cuts
@@ -46,7 +45,7 @@ for a command that needs less, beside those of `run` and the length of the image
 --figures counts host instructions by callgrind, and compares them with docs/MAP.md: of `run` for
 each guest instruction, beside the plain C interpreter; of `run` beside the image that `profile`
 and `distill` make, for each committed instruction, with 4, 16 and 64 slaves; and of `replay` for
-each idle event.  The guest queens.elf is taken from PEERS, where it is there.  Each figure has
+each idle event.  The guest queens.elf is that of examples/corpus.  Each figure has
 a row in docs/MAP.md that begins with its name and its number, as `| run mix | 75.3 |`.  Where one
 is missing, or a figure is more than 5 in 100 above the number of its row, the status is 1.
 
@@ -58,6 +57,8 @@ instructions has 2,000, 4,000 and 8,000 of them, since that takes the square of 
 Then it times `trial 1 2000` and `trial 1 10000`.
 """
 import argparse
+import atexit
+import functools
 import hashlib
 import os
 import re
@@ -72,7 +73,10 @@ from pathlib import Path
 REPOSITORY = Path(__file__).resolve().parent.parent
 EXAMPLES = REPOSITORY / "examples"
 PROGRAMS = ("mix", "shuffle")
+QEMU = "qemu-riscv32"
 WINDOW = (2_000_000, 3_000_000)
+# queens ends after 2,009,742 instructions
+EARLIER = (1_000_000, 2_000_000)
 
 # adds 1 to x5 and jumps back to that
 LOOP = (0x00128293, 0xFFDFF06F)
@@ -154,24 +158,28 @@ def for_each(words, status=120):
 def other_engines():
     """Gives the plain C interpreter and qemu, as far as they are there: name, words to run."""
     found = {}
-    peers = Path(os.environ.get("PEERS", REPOSITORY.parent / "shared" / "peers"))
-    if (peers / "bench.py").exists():
-        sys.dont_write_bytecode = True
-        sys.path.insert(0, str(peers))
-        import common
-        try:
-            common.build_tools()
-            found["plain C"] = [common.RV32, "run"]
-        except (OSError, subprocess.CalledProcessError) as fault:
-            print(f"without the plain C interpreter, which can't be built: {fault}")
-        if shutil.which(common.QEMU):
-            found["qemu"] = [common.QEMU]
-            told = subprocess.run([common.QEMU, "--help"], capture_output=True, text=True).stdout
-            for word in ("-one-insn-per-tb", "-singlestep"):
-                if word in told:
-                    found["qemu, single"] = [common.QEMU, word]
-                    break
+    if shutil.which("gcc"):
+        found["plain C"] = [built_interpreter(), "run"]
+    else:
+        print("without the plain C interpreter, as gcc isn't installed")
+    if shutil.which(QEMU):
+        found["qemu"] = [QEMU]
+        told = subprocess.run([QEMU, "--help"], capture_output=True, text=True).stdout
+        for word in ("-one-insn-per-tb", "-singlestep"):
+            if word in told:
+                found["qemu, single"] = [QEMU, word]
+                break
     return found
+
+
+@functools.cache
+def built_interpreter():
+    """Builds bench/interpreter.c in a folder that goes when this script ends."""
+    folder = tempfile.mkdtemp()
+    atexit.register(shutil.rmtree, folder, ignore_errors=True)
+    built = os.path.join(folder, "interpreter")
+    subprocess.run(["gcc", "-O2", "-o", built, str(REPOSITORY / "bench" / "interpreter.c")], check=True)
+    return built
 
 
 def show_speed(engines, programs, runs):
@@ -455,12 +463,12 @@ def show_hostile(binary):
             show(f"profile, {count} targets, descending", ["profile", file, image])
 
 
-def committed_for_each(binary, file, image, slaves, folder):
+def committed_for_each(binary, file, image, slaves, folder, window):
     """The host instructions of a run beside an image for each committed instruction. A run may
     pass its budget by a task, so the report tells how many there were."""
     report = os.path.join(folder, "report")
     counts = []
-    for budget in WINDOW:
+    for budget in window:
         words = [binary, "run", file, "--image", image, "--slaves", str(slaves), "--report", report]
         host = host_instructions([*words, "--budget", str(budget)])
         told = dict(line.rsplit(" ", 1) for line in Path(report).read_text().splitlines())
@@ -483,24 +491,23 @@ def idle_for_each(binary, folder):
 
 def figures(binary):
     """Counts the figures one by one: name, host instructions."""
-    peers = Path(os.environ.get("PEERS", REPOSITORY.parent / "shared" / "peers"))
     files = {name: EXAMPLES / "bin" / f"{name}.elf" for name in PROGRAMS}
-    queens = peers / "corpus" / "public" / "elf" / "queens.elf"
     for name, file in files.items():
         yield f"run {name}", for_each([binary, "run", str(file)])
         plain = other_engines().get("plain C")
         if plain:
             yield f"C interpreter {name}", for_each([*plain, str(file)])
-    if queens.exists():
-        files["queens"] = queens
+    files["queens"] = EXAMPLES / "corpus" / "elf" / "queens.elf"
     with tempfile.TemporaryDirectory() as folder:
         yield "replay idle", idle_for_each(binary, folder)
         for name, file in files.items():
             profile, image = (os.path.join(folder, kind) for kind in ("profile", "distilled"))
             subprocess.run([binary, "profile", str(file), profile], check=True)
             subprocess.run([binary, "distill", str(file), profile, image], check=True)
+            window = WINDOW if name in PROGRAMS else EARLIER
             for slaves in (4, 16, 64):
-                yield f"run --image {name}, slaves {slaves}", committed_for_each(binary, str(file), image, slaves, folder)
+                yield (f"run --image {name}, slaves {slaves}",
+                       committed_for_each(binary, str(file), image, slaves, folder, window))
 
 
 def rows_of_the_map():

@@ -1,6 +1,9 @@
 #!/bin/bash
 # check.sh BINARY   runs every example by the mssp program BINARY
 # check.sh --qemu   runs those that qemu-riscv32 agrees on by that
+# check.sh --plain  runs them by the plain interpreter bench/interpreter.c, and compares the counts of steps
+#
+# It prints a line for each case, and at the end how many passed.
 #
 # A case is NAME of expected/NAME.status.  Its program is bin/P.elf, P being NAME up to
 # the first '-'; its input is input/NAME.in, if there is one.  Output and status have to
@@ -19,19 +22,29 @@
 # one that isn't there.
 #
 # Cases with a line on standard error end by a trap, which is a signal under Linux, so
-# --qemu leaves them out.
+# --qemu leaves them out; --plain runs them too.
 #
 # Status: 0 all passed, 1 some failed, 2 wrong words, 77 nothing was run.
 
 cd "$(dirname "$0")" || exit 2
-usage() { sed -n 's/^# //p' check.sh | head -2 >&2; exit 2; }
+usage() { sed -n 's/^# //p' check.sh | head -3 >&2; exit 2; }
 
 [ $# -le 1 ] || usage
 if [ $# = 0 ]; then
   echo "check.sh: skipped: no binary given (check.sh BINARY)"
   exit 77
 fi
-if [ "$1" = --qemu ]; then
+room=$(mktemp -d) || exit 2
+trap 'rm -rf "$room"' EXIT
+plain=
+if [ "$1" = --plain ]; then
+  if ! command -v gcc >/dev/null; then
+    echo "check.sh: skipped: gcc isn't installed"
+    exit 77
+  fi
+  gcc -O2 -Wall -Wextra -o "$room/interpreter" ../bench/interpreter.c || exit 1
+  plain=$room/interpreter binary=
+elif [ "$1" = --qemu ]; then
   if ! command -v qemu-riscv32 >/dev/null; then
     echo "check.sh: skipped: qemu-riscv32 isn't installed"
     exit 77
@@ -46,9 +59,6 @@ else
   fi
 fi
 
-room=$(mktemp -d) || exit 2
-trap 'rm -rf "$room"' EXIT
-
 # run_case NAME [BUDGET]: leaves what it wrote in $room/out and $room/err, its status in $status
 run_case() {
   local program=bin/${1%%-*}.elf input=input/$1.in words=()
@@ -56,6 +66,12 @@ run_case() {
     [ -f "$input" ] && words+=(--input "$input")
     [ $# = 2 ] && words+=(--budget "$2")
     "$binary" run "$program" "${words[@]}" >"$room/out" 2>"$room/err" </dev/null
+  elif [ -n "$plain" ]; then
+    [ -f "$input" ] && words+=(--input "$input")
+    "$plain" run "$program" "${words[@]}" --steps "$room/steps" >"$room/out" 2>"$room/answer" </dev/null
+    status=$?
+    sed 's/^interpreter: /mssp: /' "$room/answer" >"$room/err"
+    return
   else
     [ -f "$input" ] || input=/dev/null
     qemu-riscv32 "$program" >"$room/out" 2>"$room/err" <"$input"
@@ -92,10 +108,19 @@ cut_off() {
 
 is_counted() { (cd bin && grep " $1.elf\$" ../expected/SHA256SUMS | sha256sum --check --status 2>/dev/null); }
 
+# the plain interpreter took as many steps
+counts_alike() {
+  if [ "$(<"$room/steps")" != "$(<"expected/$1.steps")" ]; then
+    echo "FAILED $1: $(<"$room/steps") steps for $(<"expected/$1.steps")"
+    return 1
+  fi
+}
+
 passed=0 failed=0 uncounted=
+pass() { passed=$((passed + 1)); echo "passed $1"; }
 for file in expected/*.status; do
   name=$(basename "$file" .status)
-  if [ -z "$binary" ] && [ -f "expected/$name.err" ]; then
+  if [ -z "$binary$plain" ] && [ -f "expected/$name.err" ]; then
     echo "left out: $name"
     continue
   fi
@@ -110,10 +135,12 @@ for file in expected/*.status; do
     as_expected "$name" " with a budget of $steps" || { failed=$((failed + 1)); continue; }
     run_case "$name" $((steps - 1))
     cut_off "$name" || { failed=$((failed + 1)); continue; }
-  elif [ -n "$binary" ]; then
+  elif [ -n "$plain" ] && is_counted "${name%%-*}"; then
+    counts_alike "$name" || { failed=$((failed + 1)); continue; }
+  elif [ -n "$binary$plain" ]; then
     uncounted="$uncounted $name"
   fi
-  passed=$((passed + 1))
+  pass "$name"
 done
 
 # speculation/NAME.img with speculation/NAME.events: the replay is speculation/NAME.out; the run beside the image has the
@@ -174,12 +201,13 @@ writes_where_named() {
 }
 
 if [ -n "$binary" ]; then
-  if writes_where_named; then passed=$((passed + 1)); else failed=$((failed + 1)); fi
+  if writes_where_named; then pass 'profiles where their names lead'; else failed=$((failed + 1)); fi
   for file in expected/*.status; do
-    if distils "$(basename "$file" .status)"; then passed=$((passed + 1)); else failed=$((failed + 1)); fi
+    name=$(basename "$file" .status)
+    if distils "$name"; then pass "$name beside its image"; else failed=$((failed + 1)); fi
   done
-  for file in speculation/*.img; do
-    if speculates "$(basename "$file" .img)"; then passed=$((passed + 1)); else failed=$((failed + 1)); fi
+  for name in lazy kept; do
+    if speculates "$name"; then pass "replay and run with $name.img"; else failed=$((failed + 1)); fi
   done
 fi
 

@@ -4,6 +4,7 @@
 mod answer;
 mod check;
 mod distill;
+mod drawn;
 mod driving;
 mod events;
 mod output;
@@ -14,6 +15,5 @@ mod run;
 mod show;
 mod speculating;
 mod top;
-mod trial;
 
 pub use top::mssp;
