@@ -391,11 +391,20 @@ class Statistics(Rooms):
         made = [
             line for line in (self.room / "tables.md").read_text().splitlines() if line.startswith(("| `words`", "| `library`"))
         ]
-        page = (REPOSITORY / "docs" / "LOOKING.md").read_text().splitlines()
+        page = (REPOSITORY / "docs" / "LOOKING.md").read_text().split("### The corpus")[0].splitlines()
         self.assertEqual(made, [line for line in page if line.startswith(("| `words`", "| `library`"))])
         self.assertEqual(len(list(self.room.glob("*.svg"))), 7)
         for chart in self.room.glob("*.svg"):
             self.assertTrue((REPOSITORY / "docs" / "statistics" / chart.name).exists())
+
+    def test_small_programs_of_the_corpus_have_the_rows_of_the_page(self) -> None:
+        from view.statistics import BUDGET, MIDDLE, corpus, measured, table_of_all
+
+        small = [guest for guest in corpus() if guest.name in ("hello", "brain", "calls", "selfmod")]
+        made = table_of_all(measured(MSSP, small, BUDGET, (MIDDLE,)), BUDGET).splitlines()
+        page = (REPOSITORY / "docs" / "LOOKING.md").read_text().split("### The corpus")[1].splitlines()
+        self.assertEqual([row for row in made if row not in page], [])
+        self.assertEqual(len(made), 6)
 
 
 def measure() -> int:

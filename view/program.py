@@ -3,11 +3,13 @@ from __future__ import annotations
 
 import subprocess
 import sys
+from collections.abc import Container
 from dataclasses import dataclass
 from pathlib import Path
 from typing import NoReturn
 
 REPOSITORY = Path(__file__).resolve().parent.parent
+REASONS = range(110, 120)
 BUILT = REPOSITORY / "crates" / "mssp" / "out" / "mssp"
 
 
@@ -26,14 +28,18 @@ class Mssp:
 
     path: Path
 
-    def call(self, *words: str | Path, passing: tuple[int, ...] = (0,)) -> bytes:
-        """What a command puts to standard output. Any status that isn't passing is refused, with the line of `mssp`."""
+    def call(self, *words: str | Path, passing: Container[int] = (0,)) -> bytes:
+        """What a command puts to standard output.
+
+        A status that isn't passing is refused, with the line of `mssp`; and so is one of those that tell why nothing was done,
+        where there is such a line: a guest may exit with the same number, but has none.
+        """
         try:
             ran = subprocess.run([str(self.path), *map(str, words)], stdin=subprocess.DEVNULL, capture_output=True, check=False)
         except OSError as error:
             raise Refused(f"{self.path}: {error.strerror} (the built program is named with --mssp)", 2) from error
-        if ran.returncode not in passing:
-            told = ran.stderr.decode(errors="replace").strip().splitlines()
+        told = ran.stderr.decode(errors="replace").strip().splitlines()
+        if ran.returncode not in passing or (told and ran.returncode in REASONS):
             raise Refused(told[-1] if told else f"mssp {words[0]}: status {ran.returncode}", ran.returncode)
         return ran.stdout
 

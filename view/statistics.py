@@ -30,7 +30,11 @@ BUDGET = 300_000
 SLAVES = 4
 RARES, GOALS = (0, 10, 100), (50, 200, 800)
 RARE, GOAL = 10, 200
+MIDDLE = (RARE, GOAL)
 SETTINGS = tuple(dict.fromkeys([(rare, GOAL) for rare in RARES] + [(RARE, goal) for goal in GOALS]))
+
+
+Setting = tuple[int, int]  # --rare and --goal
 
 
 @dataclass(frozen=True)
@@ -57,6 +61,9 @@ class Measured:
     def of(self, name: str) -> int:
         """A number of the report."""
         return int(self.report[name])
+
+
+Results = dict[str, dict[Setting, Measured]]
 
 
 def share(part: float, whole: float) -> float | None:
@@ -144,7 +151,7 @@ def agrees(report: dict[str, str], counts: Counter[str], lines: list[str]) -> bo
     return told == tuple(int(report[name]) for name in ("tasks", "by-tasks", "squashed"))
 
 
-def measure(mssp: Mssp, guest: Guest, profile: Path, room: Path, setting: tuple[int, int], budget: int) -> Measured:
+def measure(mssp: Mssp, guest: Guest, profile: Path, room: Path, setting: Setting, budget: int) -> Measured:
     """One program, distilled with one setting, run and replayed."""
     image, rare, goal = room / "image", str(setting[0]), str(setting[1])
     mssp.call("distill", guest.file, profile, image, "--rare", rare, "--goal", goal)
@@ -157,7 +164,7 @@ def measure(mssp: Mssp, guest: Guest, profile: Path, room: Path, setting: tuple[
         "--report",
         room / "report",
         *words,
-        passing=tuple(range(110)) + (120, 121) + tuple(range(122, 256)),
+        passing=range(256),
     )
     report = dict(line.split(" ", 1) for line in (room / "report").read_text().splitlines())
     lines = replayed(mssp, guest, image, room, budget)
@@ -168,14 +175,14 @@ def measure(mssp: Mssp, guest: Guest, profile: Path, room: Path, setting: tuple[
     return Measured(report, counts["moved"] + counts["forked"], begun, len(lines), *shown(mssp, image))
 
 
-def measured(mssp: Mssp, guests: list[Guest], budget: int) -> dict[str, dict[tuple[int, int], Measured]]:
+def measured(mssp: Mssp, guests: list[Guest], budget: int, settings: tuple[Setting, ...]) -> Results:
     """Each program with each setting."""
-    results: dict[str, dict[tuple[int, int], Measured]] = {}
+    results: Results = {}
     with tempfile.TemporaryDirectory() as name:
         room = Path(name)
         for guest in guests:
             mssp.call("profile", guest.file, room / "profile", "--budget", str(budget), *input_words(guest.input))
-            results[guest.name] = {setting: measure(mssp, guest, room / "profile", room, setting, budget) for setting in SETTINGS}
+            results[guest.name] = {setting: measure(mssp, guest, room / "profile", room, setting, budget) for setting in settings}
     return results
 
 
@@ -184,32 +191,52 @@ def spelled(value: float | None, digits: int) -> str:
     return "–" if value is None else f"{value:,.{digits}f}"
 
 
-def table_of(figure: Figure, results: dict[str, dict[tuple[int, int], Measured]]) -> str:
+def cell_of(figure: Figure, one: Measured) -> str:
+    """A figure of what was measured, as a cell of a table."""
+    cell = spelled(figure.value(one), figure.digits)
+    return cell if figure.above is None else f"{cell} + {spelled(figure.above(one), figure.digits)}"
+
+
+def table_of(figure: Figure, results: Results) -> str:
     """The table of one figure: a row for each program, a column for each setting."""
     heads = [f"rare {rare}, goal {goal}" for rare, goal in SETTINGS]
     lines = ["| Program | " + " | ".join(heads) + " |", "|---|" + "---:|" * len(heads)]
     for name, row in results.items():
-        cells = []
-        for setting in SETTINGS:
-            cell = spelled(figure.value(row[setting]), figure.digits)
-            if figure.above is not None:
-                cell += f" + {spelled(figure.above(row[setting]), figure.digits)}"
-            cells.append(cell)
+        cells = [cell_of(figure, row[setting]) for setting in SETTINGS]
         lines.append(f"| `{name}` | " + " | ".join(cells) + " |")
     return "\n".join(lines)
 
 
-def table_of_runs(results: dict[str, dict[tuple[int, int], Measured]], budget: int) -> str:
+def ended(one: Measured, budget: int) -> str:
+    """How a run ended, or where it was cut."""
+    return one.report["end"] if one.report["end"] != "none" else f"cut at {budget:,} steps"
+
+
+def table_of_all(results: Results, budget: int) -> str:
+    """All figures of the middle setting in one table: a row for each program."""
+    heads = ["committed steps", "end", *(figure.title.lower() for figure in FIGURES)]
+    lines = ["| Program | " + " | ".join(heads) + " |", "|---|---:|---|" + "---:|" * len(FIGURES)]
+    for name, row in results.items():
+        cells = [
+            f"{row[MIDDLE].of('position'):,}",
+            ended(row[MIDDLE], budget),
+            *(cell_of(figure, row[MIDDLE]) for figure in FIGURES),
+        ]
+        lines.append(f"| `{name}` | " + " | ".join(cells) + " |")
+    return "\n".join(lines)
+
+
+def table_of_runs(results: Results, budget: int) -> str:
     """What was run: with the middle setting, how far and how it ended."""
     lines = ["| Program | committed steps | tasks committed | tasks begun | end |", "|---|---:|---:|---:|---|"]
     for name, row in results.items():
-        one = row[(RARE, GOAL)]
-        end = one.report["end"] if one.report["end"] != "none" else f"cut at {budget:,} steps"
+        one = row[MIDDLE]
+        end = ended(one, budget)
         lines.append(f"| `{name}` | {one.of('position'):,} | {one.of('tasks'):,} | {one.begun:,} | {end} |")
     return "\n".join(lines)
 
 
-def draw(figure: Figure, results: dict[str, dict[tuple[int, int], Measured]], folder: Path) -> None:
+def draw(figure: Figure, results: Results, folder: Path) -> None:
     """The chart of one figure: once over --rare, once over --goal."""
     from view.charts import chart
 
@@ -243,6 +270,18 @@ def examples() -> list[Guest]:
     return guests
 
 
+def corpus() -> list[Guest]:
+    """The programs of examples/corpus, each in the first of its cases."""
+    folder = EXAMPLES / "corpus"
+    guests: dict[str, Guest] = {}
+    for line in (folder / "cases.txt").read_text().splitlines():
+        if line and not line.startswith("#"):
+            _, name, given, *_ = line.split()
+            file = folder / "elf" / f"{name}.elf"
+            guests.setdefault(name, Guest(name, file, None if given == "-" else str(folder / "in" / given)))
+    return list(guests.values())
+
+
 def others(words: list[str]) -> list[Guest]:
     """Programs by name, each perhaps with an input behind a comma."""
     parts = [word.partition(",") for word in words]
@@ -254,7 +293,7 @@ def write(words: argparse.Namespace) -> None:
     guests = others(words.programs) if words.programs else examples()
     folder = words.out or CHARTS
     folder.mkdir(parents=True, exist_ok=True)
-    results = measured(Mssp(words.binary), guests, words.budget)
+    results = measured(Mssp(words.binary), guests, words.budget, SETTINGS)
     tables = {figure.file: table_of(figure, results) for figure in FIGURES}
     tables["runs"] = table_of_runs(results, words.budget)
     for figure in FIGURES:
@@ -263,6 +302,7 @@ def write(words: argparse.Namespace) -> None:
         parts = [f"## {figure.title}, {figure.unit}\n\n{tables[figure.file]}\n" for figure in FIGURES]
         (folder / "tables.md").write_text("\n".join([tables["runs"] + "\n", *parts]))
         return
+    tables["corpus"] = table_of_all(measured(Mssp(words.binary), corpus(), words.budget, (MIDDLE,)), words.budget)
     page = PAGE.read_text()
     for name, table in tables.items():
         page = put_between(page, name, table)
