@@ -1,7 +1,7 @@
 #!/bin/bash
 # try.sh BINARY [PAGE..]   runs the commands of the pages as printed, by the mssp program BINARY, and compares what comes
 #
-# The pages are TUTORIAL, SPECULATION, DISTILLING and FORMATS, if none is named. In a block of a page a command is a line that
+# The pages are TUTORIAL, SPECULATION, DISTILLING, FORMATS and THEORY, if none is named. In a block of a page a command is a line that
 # begins with `$ `, with the lines of its here-document behind it; what has to come, on standard output and standard error, are the
 # lines up to the next command. The commands of a page run one after the other, in a copy of the repository's examples. At its end
 # the page has to leave the copy as it was.
@@ -21,7 +21,7 @@ if [ ! -f "$binary" ] || [ ! -x "$binary" ]; then
   exit 2
 fi
 shift
-[ $# -gt 0 ] || set -- TUTORIAL SPECULATION DISTILLING FORMATS
+[ $# -gt 0 ] || set -- TUTORIAL SPECULATION DISTILLING FORMATS THEORY
 
 room=$(mktemp -d) || exit 2
 trap 'rm -rf "$room"' EXIT
@@ -43,6 +43,7 @@ fi
 wanting() {
   case $1 in
     *'rt run'*) echo 'rt, and much time' ;;
+    python3*) command -v python3 >/dev/null || echo python3 ;;
     *'$library'* | *try/table.elf* | *try/float.elf* | *try/compressed.elf*) [ "$picolibc" ] || echo picolibc ;;
     *'$cc '* | *try/twice.elf* | *try/trap.elf*) [ "$compiler" ] || echo riscv64-unknown-elf-gcc ;;
   esac
