@@ -1,9 +1,10 @@
 #!/usr/bin/env python3
 """rules.py BINARY   why an image has to meet each of the seven rules of fitting
 
-Makes a program, an image that fits it, and for each rule an image that breaks this rule alone. The run meets what each of them lists
-(`mssp check`), and beside the one that fits nothing is squashed or given up; beside each of the others something is. It prints a line for
-each image: the rule, how often tasks were squashed and given up, and the first squash. The status is 1 where one is not so.
+Makes a program, an image that fits it, and for each rule an image that breaks this rule alone. The run meets what each of them
+lists (`mssp check`), and beside the one that fits nothing is squashed or given up; beside each of the others something is. It
+prints a line for each image: the rule, how often tasks were squashed and given up, and the first squash. The status is 1 where
+one is not so.
 
 The rules are those of docs/THEORY.md, section 5: `Fits` in crates/fitting/specs/Fits.antt.
 """
@@ -114,27 +115,32 @@ class Image:
         return struct.pack(f"<{len(words)}I", *words)
 
 
-def solved(image: Image, live_left_out: frozenset[int] = frozenset(), anchors_need: bool = True) -> Image:
-    """The image with the least masks that fit. At the function's anchor these registers are left out of what is live, and where
-    its need isn't asked for, it has none on account of what is live there."""
+def solved(image: Image, live_left_out: frozenset[int] = frozenset(), unasked: frozenset[int] = frozenset()) -> Image:
+    """The image with the least masks that fit, but that the first registers are left out of what is live in the function, and that
+    anchors don't need the others only because they are live."""
     live = {at: frozenset() for at in PROGRAM}
     need = dict(live)
     before = None
     while before != (live, need):
         before = live, need
-        live = {at: i.reads | frozenset().union(*(live[q] for q in image.leads(at))) - i.writes for at, i in PROGRAM.items()}
+        live = {at: alive(image, live, at) for at in PROGRAM}
         live[ADDING] -= live_left_out
-        need = {at: needed(image, live, need, at) for at in PROGRAM}
-        if anchors_need:
-            need |= {at: need[at] | live[at] for at in image.anchors}
-        else:
-            need |= {at: need[at] | live[at] - regs(9) for at in image.anchors}
+        need = {at: needed(image, need, at) for at in PROGRAM}
+        need |= {at: need[at] | live[at] - unasked for at in image.anchors}
     return replace(image, live=live, need=need)
 
 
-def needed(image: Image, live: dict[int, frozenset[int]], need: dict[int, frozenset[int]], at: int) -> frozenset[int]:
-    behind = frozenset().union(*(need[q] for q in image.leads(at)))
-    return behind if at in image.passed else PROGRAM[at].reads | behind - PROGRAM[at].writes
+def behind(image: Image, masks: dict[int, frozenset[int]], at: int) -> frozenset[int]:
+    return frozenset().union(*(masks[q] for q in image.leads(at)))
+
+
+def alive(image: Image, live: dict[int, frozenset[int]], at: int) -> frozenset[int]:
+    return PROGRAM[at].reads | behind(image, live, at) - PROGRAM[at].writes
+
+
+def needed(image: Image, need: dict[int, frozenset[int]], at: int) -> frozenset[int]:
+    after = behind(image, need, at)
+    return after if at in image.passed else PROGRAM[at].reads | after - PROGRAM[at].writes
 
 
 def broken(image: Image) -> set[str]:
@@ -146,18 +152,19 @@ def broken(image: Image) -> set[str]:
     if any(slots[places[at]] != (FORK, number, 0) for number, at in enumerate(image.anchors)):
         found.add("forks")
     for at, instruction in PROGRAM.items():
-        behind = at + 4
+        after = at + 4
         if at in image.passed:
             body = places[at] + (at in image.anchors)
-            if slots[body] != (GO, behind, 0) and places[behind] != body:
+            if slots[body] != (GO, after, 0) and places[after] != body:
                 found.add("placed")
-            if instruction.bound or instruction.writes & image.need[behind]:
+            if instruction.bound or instruction.writes & image.need[after]:
                 found.add("passed")
         if instruction.by_register and not image.targets:
             found.add("aimed")
-        if not instruction.reads <= image.live[at] or any(not image.live[q] - instruction.writes <= image.live[at] for q in image.leads(at)):
+        if not alive(image, image.live, at) <= image.live[at]:
             found.add("live")
-        if not needed(image, image.live, image.need, at) <= image.need[at] or at in image.anchors and not image.live[at] <= image.need[at]:
+        asked = image.live[at] if at in image.anchors else frozenset()
+        if not needed(image, image.need, at) | asked <= image.need[at]:
             found.add("need")
     return found
 
@@ -176,7 +183,7 @@ IMAGES: dict[str, Callable[[], Image]] = {
     "passed": lambda: replace(solved(Image()), passed=Image().passed | {pc(3)}),
     "aimed": lambda: solved(replace(without_rising(), targets=False)),
     "live": lambda: solved(without_rising(), live_left_out=regs(9)),
-    "need": lambda: solved(without_rising(), anchors_need=False),
+    "need": lambda: solved(without_rising(), unasked=regs(9)),
 }
 
 
