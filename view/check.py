@@ -47,8 +47,8 @@ def script(name: str, *words: str | Path, mssp: Path | None = None) -> subproces
     return subprocess.run(command, capture_output=True, text=True, check=False)
 
 
-def dom(page: Path) -> str:
-    """What a page has become once its script has run, without its data and its script."""
+def dom(page: Path, whole: bool = False) -> str:
+    """What a page has become once its script has run, the whole of it or without its data and its script."""
     with tempfile.TemporaryDirectory() as profile:
         words = [
             "--headless",
@@ -59,7 +59,7 @@ def dom(page: Path) -> str:
             "--dump-dom",
         ]
         ran = subprocess.run([str(BROWSER), *words, page.as_uri()], capture_output=True, text=True, check=False, timeout=120)
-    return ran.stdout.split('<script type="application/json"')[0].replace("\n", " ")
+    return ran.stdout if whole else ran.stdout.split('<script type="application/json"')[0].replace("\n", " ")
 
 
 def distilled(room: Path, name: str, *options: str, budget: str = "300000") -> tuple[str, str]:
@@ -106,6 +106,7 @@ class Pages(Rooms):
     """The page, the lanes, the trace and the picture of a replay."""
 
     def page(self, *words: str | Path) -> str:
+        """What the page of a replay becomes in a browser."""
         ran = script("replay.py", *words, "-o", self.room / "page.html")
         self.assertEqual(ran.returncode, 0, ran.stderr)
         return dom(self.room / "page.html")
@@ -120,6 +121,27 @@ class Pages(Rooms):
         self.assertRegex(page, r'<path class="mark squash" data-marks="1"')
         self.assertRegex(page, r'<path class="mark fork" data-marks="1"')
         self.assertRegex(page, r'data-bars="2"')
+
+    @unittest.skipUnless(BROWSER, "no Chromium is there")
+    def test_pointing_tells(self) -> None:
+        self.page(COUNT, LAZY, EVENTS)
+        page = (self.room / "page.html").read_text()
+        moved = "svg.dispatchEvent(new PointerEvent('pointermove', {clientX: box.left + x(%s), clientY: box.top + %d}));"
+        pointing = "const box = svg.getBoundingClientRect(); const out = [];" + "".join(
+            moved % place + "out.push(tip.textContent);" for place in ((15.5, 203), (1.5, 23), (9.5, 113), (12.5, 300))
+        )
+        pointing += "document.body.append(JSON.stringify(out));"
+        (self.room / "page.html").write_text(page.replace("</body>", f"<script>{pointing}</script></body>"))
+        squash, started, step, chart = json.loads(re.findall(r'\["event.*\]', dom(self.room / "page.html", whole=True))[-1])
+        self.assertIn(
+            "event 15, commit: squashed byte 00020000 predicted 00000000 found 00000001\ntask 1: begun at event 3, 5 steps",
+            squash,
+        )
+        self.assertIn(SQUASH, squash)
+        self.assertIn("00010004", squash.split("it starts at ")[1])
+        self.assertIn("event 1, restart: started 00010004\ntask 0: begun at event 1", started)
+        self.assertIn("event 9, slave 1: stepped\ntask 1: begun at event 3", step)
+        self.assertIn("event 12\ncommitted position 1, live tasks 2, master's lead 2", chart)
 
     @unittest.skipUnless(BROWSER, "no Chromium is there")
     def test_page_of_a_list_in_vain(self) -> None:
@@ -219,6 +241,7 @@ class Lists(Rooms):
     """Lists of events."""
 
     def made(self, *words: str | Path) -> list[str]:
+        """The events that rounds.py writes."""
         ran = script("rounds.py", *words, "-o", self.room / "made")
         self.assertEqual(ran.returncode, 0, ran.stderr)
         return written_out(self.room / "made")
@@ -291,6 +314,7 @@ class Refusals(Rooms):
     """What can't be done is told in one line, with the status of `mssp`."""
 
     def refused(self, status: int, line: str, *words: str | Path, mssp: Path | None = None) -> None:
+        """Both scripts refuse a program, an image and a list with this status and line, and write nothing."""
         for name, more in (("replay.py", ("-o", str(self.room / "page.html"))), ("rounds.py", ("--squeeze", str(words[2])))):
             given = (*words, *more) if name == "replay.py" else (*more, *words[:2])
             ran = script(name, *given, mssp=mssp)
@@ -320,6 +344,12 @@ class Refusals(Rooms):
         self.refused(
             113, "mssp: sink fault", COUNT, LAZY, EVENTS, mssp=self.stub("echo stepped; echo 'mssp: sink fault' >&2; exit 113")
         )
+
+    def test_more_than_is_held(self) -> None:
+        events = self.room / "many"
+        events.write_text("1 serial\n90000000 master\n")
+        line = f"{events}: 90,000,001 events, and at most 10,000,000 are held here"
+        self.refused(2, line, COUNT, LAZY, events)
 
     def test_not_built(self) -> None:
         none = self.room / "none"
@@ -393,8 +423,8 @@ def measure() -> int:
         print("view/check.sh: the page wasn't drawn")
         return 1
     print(
-        f"100,000 events of mix: a page of {size:,} bytes; Chromium started, drew and closed in {opened:.2f} s, and the page was drawn "
-        f"{int(ready[1])} ms after it began to load; a view of it is drawn in {float(drawn_in[1]):.1f} ms, the mean of 200"
+        f"100,000 events of mix: a page of {size:,} bytes; Chromium started, drew and closed in {opened:.2f} s, and the "
+        f"page was drawn {int(ready[1])} ms after it began to load; a view of it is drawn in {float(drawn_in[1]):.1f} ms"
     )
     return 0 if opened < LIMIT else 1
 

@@ -101,7 +101,7 @@ def _ruler(window: Window, block: range) -> str:
         at = column - block.start
         if column % 10 == 0 and at + len(label) <= len(text):
             text[at : at + len(label)] = label
-    return "event".ljust(LABEL) + "".join(text)
+    return ("event".ljust(LABEL) + "".join(text)).rstrip()
 
 
 def _remark(story: Story, names: Names, event: int) -> str | None:
@@ -134,7 +134,7 @@ def text_lanes(story: Story, names: Names, width: int, first: int, last: int | N
     for block in window.blocks():
         lines += ["", _ruler(window, block)]
         for name, row in zip(lanes_of(story.slaves), rows):
-            lines.append(name.ljust(LABEL) + "".join(row[block.start : block.stop]).rstrip())
+            lines.append((name.ljust(LABEL) + "".join(row[block.start : block.stop])).rstrip())
     told = (_remark(story, names, event) for event in range(window.first, window.last + 1))
     remarks = [remark for remark in told if remark is not None and (window.group == 1 or " forked " not in remark)]
     lines.append("")

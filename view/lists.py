@@ -12,6 +12,7 @@ from pathlib import Path
 from view.program import Refused
 
 MOST = 100_000_000
+MOST_HELD = 10_000_000  # what the scripts here hold at once
 MASTER_SLOTS = 4
 
 
@@ -30,6 +31,18 @@ def drawn(slaves: int, count: int, seed: int) -> list[str]:
 def text_of(events: Iterable[str]) -> str:
     """The list of these events: equal ones that follow one another are one line."""
     return "".join(f"{sum(1 for _ in same)} {event}\n" for event, same in groupby(events))
+
+
+def is_held(file: Path) -> None:
+    """Refuses a list with more events than are held at once. What isn't a list is left to `mssp` to refuse."""
+    try:
+        lines = file.read_text("latin-1").split("\n")
+    except OSError:
+        return
+    counts = [line.split(" ", 1)[0] for line in lines if line and not line.startswith("#")]
+    count = sum(int(number) for number in counts if number.isascii() and number.isdigit() and len(number) < 10)
+    if MOST_HELD < count <= MOST:
+        raise Refused(f"{file}: {count:,} events, and at most {MOST_HELD:,} are held here", 2)
 
 
 def written_out(file: Path) -> list[str]:

@@ -11,11 +11,14 @@ const MARKS = {
   step: "#6d7b90", idle: "#c3cad4", stalled: "#e0a030", reached: "#1c2430", full: "#7b3fa0", met: "#7b3fa0", fork: "#2f5d9b",
   restart: "#2f5d9b", halted: "#c0392b", commit: "#2d6a4b", squash: "#c0392b", end: "#1c2430",
 };
+const KIND_OF = {
+  forked: "fork", started: "restart", committed: "commit", squashed: "squash", ended: "end", moved: "step", stepped: "step",
+};
 const SHAPES = new Set(["full", "met", "fork", "restart", "halted", "squash", "end"]);
 const INSIDE = -1;
 const LEFT = 128, RIGHT = 14, TOP = 8, LANE = 30, NOTES = 16, CHART = 58, GAP = 16;
 const CHARTS = [["committed position", D.positions], ["live tasks", D.live], ["master's lead", D.lead]];
-const T = { slave: 0, begun: 1, done: 2, ended: 3, fate: 4, steps: 5, pc: 6, ending: 7, line: 8, behind: 9, restarted: 10, position: 11 };
+const T = Object.fromEntries(D.columns.map((name, at) => [name, at]));
 
 const kindOfLine = D.lines.map((line) => KINDS.indexOf(kind(line)));
 const squashes = D.tasks.map((task, number) => [task, number]).filter(([task]) => task[T.fate] === 1);
@@ -25,18 +28,19 @@ D.tasks.forEach((task, number) => perLane[2 + task[T.slave]].push(number));
 const lanesEnd = TOP + D.lanes.length * LANE + noteRows * NOTES;
 const height = lanesEnd + 22 + CHARTS.length * (CHART + GAP);
 const svg = document.getElementById("svg"), tip = document.getElementById("tip"), kept = document.getElementById("kept");
-let view = [0, Math.max(1, COUNT)], width = 800, cursor = null;
+let view = [0, Math.max(1, COUNT)], width = 800;
 
 function kind(line) {
   const [word, second] = line.split(" ");
   if (word === "done") return second;
-  const named = { forked: "fork", started: "restart", committed: "commit", squashed: "squash", ended: "end", moved: "step", stepped: "step" };
-  return named[word] || word;
+  return KIND_OF[word] || word;
 }
 
 const scale = () => (width - LEFT - RIGHT) / (view[1] - view[0]);
 const x = (event) => LEFT + (event - view[0]) * scale();
-const laneAt = (event) => D.lane.charCodeAt(event) - 48;
+const laneAt = (event) => D.laneOf[D.event.charCodeAt(event) - 48];
+const endOf = (task) => (task[T.ended] === null ? COUNT : task[T.ended] + 1);
+const px = (value) => value.toFixed(1);
 const laneTop = (lane) => TOP + lane * LANE;
 const escaped = (text) => String(text).replace(/[&<>"]/g, (c) => ({ "&": "&amp;", "<": "&lt;", ">": "&gt;", '"': "&quot;" })[c]);
 const place = (pc) => (D.places[pc] ? ` ${D.places[pc]}` : "");
@@ -52,24 +56,26 @@ function laneBands() {
 
 function bar(number, from, to) {
   const task = D.tasks[number], y = laneTop(2 + task[T.slave]) + 5, wide = Math.max(1, to - from);
-  let out = `<rect class="task ${FATES[task[T.fate]]}" data-task="${number}" x="${from.toFixed(1)}" y="${y}" width="${wide.toFixed(1)}"` +
-    ` height="${LANE - 10}" rx="2" fill="${COLOURS[FATES[task[T.fate]]]}"/>`;
+  const fate = FATES[task[T.fate]], rest = `y="${y}" height="${LANE - 10}"`, fill = `fill="${COLOURS[fate]}"`;
+  let out = `<rect class="task ${fate}" data-task="${number}" x="${px(from)}" width="${px(wide)}" ${rest} rx="2" ${fill}/>`;
   const done = task[T.done] === null ? to : Math.min(to, Math.max(from, x(task[T.done] + 1)));
-  if (to - done > 1) out += `<rect class="wait" x="${done.toFixed(1)}" y="${y}" width="${(to - done).toFixed(1)}" height="${LANE - 10}"/>`;
+  if (to - done > 1) out += `<rect class="wait" x="${px(done)}" width="${px(to - done)}" ${rest}/>`;
   return out;
 }
 
 function label(number, from, to) {
   const task = D.tasks[number], text = task[T.pc] ? `${number} from ${task[T.pc]}${place(task[T.pc])}` : String(number);
   const short = to - from > 8 + 6.6 * text.length ? text : String(number);
-  if (to - from < 5 + 6.3 * short.length) return "";
-  return `<text class="inside" x="${(Math.max(from, LEFT) + 4).toFixed(1)}" y="${laneTop(2 + task[T.slave]) + 17}">${escaped(short)}</text>`;
+  if (to - from < 9 + 6.3 * short.length) return "";
+  const y = laneTop(2 + task[T.slave]) + 17;
+  const pale = task[T.done] !== null && x(task[T.done] + 1) - Math.max(from, LEFT) < 4 + 6.3 * short.length;
+  return `<text class="inside${pale ? " dark" : ""}" x="${px(Math.max(from, LEFT) + 4)}" y="${y}">${escaped(short)}</text>`;
 }
 
 function link(number, from) {
   const task = D.tasks[number], source = task[T.restarted] ? 0 : 1, middle = from + scale() / 2;
   if (middle < LEFT || middle > width - RIGHT) return "";
-  return `<path class="link" d="M${middle.toFixed(1)} ${laneTop(source) + LANE / 2}V${laneTop(2 + task[T.slave]) + 5}"/>`;
+  return `<path class="link" d="M${px(middle)} ${laneTop(source) + LANE / 2}V${laneTop(2 + task[T.slave]) + 5}"/>`;
 }
 
 function tasksIn(lane) {
@@ -90,7 +96,7 @@ function bars() {
     let last = -1;
     for (const number of tasksIn(lane)) {
       const task = D.tasks[number];
-      const from = Math.max(LEFT, x(task[T.begun])), to = Math.min(width - RIGHT, task[T.ended] === null ? x(COUNT) : x(task[T.ended] + 1));
+      const from = Math.max(LEFT, x(task[T.begun])), to = Math.min(width - RIGHT, x(endOf(task)));
       if (to - from < 2 && Math.floor(from / 2) === last && task[T.fate] !== 1) continue;
       last = Math.floor(from / 2);
       out.push(bar(number, from, to));
@@ -108,17 +114,16 @@ function shape(name, at, top) {
     case "restart": return `M${at - 4} ${y - 6}L${at + 6} ${y}L${at - 4} ${y + 6}Z`;
     case "halted": return `M${at - 5} ${y - 5}h10v10h-10Z`;
     case "met": case "full": return `M${at} ${y - 6}L${at + 5} ${y}L${at} ${y + 6}L${at - 5} ${y}Z`;
-    case "squash": return `M${at - 6} ${y - 8}L${at} ${y - 2}L${at + 6} ${y - 8}L${at + 8} ${y - 6}L${at + 2} ${y}L${at + 8} ${y + 6}` +
-      `L${at + 6} ${y + 8}L${at} ${y + 2}L${at - 6} ${y + 8}L${at - 8} ${y + 6}L${at - 2} ${y}L${at - 8} ${y - 6}Z`;
+    case "squash": return `M${at - 6} ${y - 8}l6 6l6 -6l2 2l-6 6l6 6l-2 2l-6 -6l-6 6l-2 -2l6 -6l-6 -6Z`;
     case "end": return `M${at - 5} ${y - 9}h10v18h-10Z`;
   }
   return "";
 }
 
 function tick(name, lane, at, wide) {
-  const top = laneTop(lane), left = (at - wide / 2).toFixed(1), w = wide.toFixed(1);
+  const top = laneTop(lane), left = px(at - wide / 2), w = px(wide);
   const inTask = lane > 1 && lane < D.lanes.length - 1;
-  if (name === "commit" || name === "reached") return `M${(at - 1.2).toFixed(1)} ${top + 4}h2.4v${LANE - 8}h-2.4Z`;
+  if (name === "commit" || name === "reached") return `M${px(at - 1.2)} ${top + 4}h2.4v${LANE - 8}h-2.4Z`;
   if (name === "idle") return `M${left} ${top + LANE - 4}h${w}v2h-${w}Z`;
   if (name === "stalled") return `M${left} ${top + 9}h${w}v${LANE - 18}h-${w}Z`;
   return inTask ? `M${left} ${top + LANE - 9}h${w}v3h-${w}Z` : `M${left} ${top + 11}h${w}v${LANE - 22}h-${w}Z`;
@@ -145,20 +150,33 @@ function marks() {
   }).join("");
 }
 
+// the cell of a squash and both values, each with its name where it is an address
+function parts(task) {
+  const [, cell, predicted, found] = task[T.line].match(/^squashed (.*) predicted (\S+) found (\S+)$/);
+  const at = (value) => (cell === "pc" ? place(value) : "");
+  const named = cell.startsWith("byte ") ? place(cell.slice(5)) : "";
+  return [[cell, named], [predicted, at(predicted)], [found, at(found)]];
+}
+
 function squashText([task, number]) {
-  const cell = task[T.line].replace(/^squashed /, "").replace(/ predicted/, ": predicted").replace(/ found/, ", found");
-  return `squashed task ${number}${task[T.pc] ? ` from ${task[T.pc]}${place(task[T.pc])}` : ""}, ${cell}`;
+  const [[cell, named], [value], [other, at]] = parts(task);
+  const said = `${cell}${named}: predicted ${value}, found ${other}${at}`;
+  const start = task[T.pc] ? ` from ${task[T.pc]}${place(task[T.pc])}` : "";
+  return `squashed task ${number}${start}, ${said}`;
 }
 
 function notes() {
   const seen = squashes.filter(([task]) => task[T.ended] >= view[0] && task[T.ended] < view[1]);
   if (seen.length > noteRows) {
-    return `<text class="squashed" x="${LEFT}" y="${lanesEnd - noteRows * NOTES + 12}">${seen.length} squashes here: zoom in, or see the table below</text>`;
+    const y = lanesEnd - noteRows * NOTES + 12;
+    return `<text class="squashed" x="${LEFT}" y="${y}">${seen.length} squashes here: zoom in, or see the table below</text>`;
   }
   return seen.map((one, row) => {
     const at = x(one[0][T.ended] + 0.5), left = at < width / 2, y = lanesEnd - (noteRows - row) * NOTES + 12;
-    return `<text class="squashed" text-anchor="${left ? "start" : "end"}" x="${Math.min(width - RIGHT, at + (left ? -6 : 6)).toFixed(1)}" y="${y}">` +
-      `${escaped(squashText(one))}</text>`;
+    const text = squashText(one), long = 6.8 * text.length;
+    const from = left ? Math.min(at - 6, width - RIGHT - long) : Math.max(at + 6, 4 + long);
+    const where = `text-anchor="${left ? "start" : "end"}" x="${px(left ? Math.max(4, from) : Math.min(width - 4, from))}"`;
+    return `<text class="squashed" ${where} y="${y}">${escaped(text)}</text>`;
   }).join("");
 }
 
@@ -172,8 +190,8 @@ function axis() {
   for (let event = Math.ceil(view[0] / step) * step; event < view[1]; event += step) {
     const at = x(event + 0.5);
     if (at > width - 30) break;
-    out.push(`<path stroke="#d5dae2" d="M${at.toFixed(1)} ${TOP}V${height - GAP}"/>` +
-      `<text class="small" x="${at.toFixed(1)}" y="${lanesEnd + 14}" text-anchor="middle">${number(event)}</text>`);
+    out.push(`<path stroke="#d5dae2" d="M${px(at)} ${TOP}V${height - GAP}"/>` +
+      `<text class="small" x="${px(at)}" y="${lanesEnd + 14}" text-anchor="middle">${number(event)}</text>`);
   }
   return [out.join(""), `<text class="small" x="8" y="${lanesEnd + 14}">event</text>`];
 }
@@ -193,8 +211,8 @@ function chart([name, changes], index) {
   let most = 1;
   for (let i = 1; i < changes.length; i += 2) most = Math.max(most, changes[i]);
   const y = (value) => top + CHART - 3 - (value / most) * (CHART - 8);
-  let path = `M${LEFT} ${y(valueAt(changes, view[0] - 1)).toFixed(1)}`, column = -1, low = 0, high = 0, value = 0;
-  const flush = () => { if (column >= 0) path += `H${column}V${y(low).toFixed(1)}V${y(high).toFixed(1)}V${y(value).toFixed(1)}`; };
+  let path = `M${LEFT} ${px(y(valueAt(changes, view[0] - 1)))}`, column = -1, low = 0, high = 0, value = 0;
+  const flush = () => { if (column >= 0) path += `H${column}V${px(y(low))}V${px(y(high))}V${px(y(value))}`; };
   let i = 0;
   while (i < changes.length && changes[i] < view[0]) i += 2;
   for (; i < changes.length && changes[i] < view[1]; i += 2) {
@@ -214,7 +232,7 @@ function chart([name, changes], index) {
     name.split(" ").map((word, row) => `<text class="small" x="8" y="${top + 13 + 14 * row}">${word}</text>`).join("") +
     `<text class="small" x="${LEFT - 5}" y="${top + CHART - 2}" text-anchor="end">0</text>` +
     `<text class="small" x="${LEFT - 5}" y="${top + 13}" text-anchor="end">${number(most)}</text>` +
-    `<path class="chart" d="${path}H${Math.min(width - RIGHT, x(COUNT)).toFixed(1)}"/>`;
+    `<path class="chart" d="${path}H${px(Math.min(width - RIGHT, x(COUNT)))}"/>`;
 }
 
 function draw() {
@@ -222,9 +240,11 @@ function draw() {
   svg.setAttribute("viewBox", `0 0 ${width} ${height}`);
   svg.setAttribute("height", height);
   const [lines, name] = axis();
-  svg.innerHTML = laneBands() + CHARTS.map(chart).join("") + lines + name + bars() + marks() + notes() + `<path id="cursor" class="cursor"/>`;
+  const charts = CHARTS.map(chart).join(""), line = `<path id="cursor" class="cursor"/>`;
+  svg.innerHTML = laneBands() + charts + lines + name + bars() + marks() + notes() + line;
   const last = Math.min(COUNT, Math.ceil(view[1])) - 1;
-  document.getElementById("range").textContent = `events ${number(Math.max(0, Math.floor(view[0])))} to ${number(last)} of ${number(COUNT)}`;
+  const first = Math.max(0, Math.floor(view[0]));
+  document.getElementById("range").textContent = `events ${number(first)} to ${number(last)} of ${number(COUNT)}`;
 }
 
 let asked = false;
@@ -271,8 +291,7 @@ function taskText(n) {
 }
 
 function eventText(event) {
-  const line = D.lines[D.line[event]], actor = D.lanes[laneAt(event)];
-  const name = { machine: line.startsWith("started") || line === "idle" ? "machine" : "serial", commits: "commit" }[actor] || actor;
+  const line = D.lines[D.line[event]], name = D.events[D.event.charCodeAt(event) - 48];
   const address = line.match(/^started ([0-9a-f]{8})|byte ([0-9a-f]{8})|misfetch ([0-9a-f]{8})/);
   const at = address && (address[1] || address[2] || address[3]);
   const out = [`event ${number(event)}, ${name}: ${line}${at ? place(at) : ""}`];
@@ -303,16 +322,17 @@ function nearest(lane, from, to, middle) {
 
 function taskUnder(lane, event) {
   if (lane < 2 || lane >= D.lanes.length - 1) return -1;
-  const found = perLane[lane].find((n) => D.tasks[n][T.begun] <= event && event < (D.tasks[n][T.ended] === null ? COUNT : D.tasks[n][T.ended] + 1));
+  const found = perLane[lane].find((n) => D.tasks[n][T.begun] <= event && event < endOf(D.tasks[n]));
   return found === undefined ? -1 : found;
 }
 
-function told(px, py) {
-  const exact = view[0] + (px - LEFT) / scale(), event = Math.floor(exact), lane = Math.floor((py - TOP) / LANE);
-  if (px < LEFT || event < 0 || event >= COUNT) return null;
+function told(across, down) {
+  const event = Math.floor(view[0] + (across - LEFT) / scale()), lane = Math.floor((down - TOP) / LANE);
+  if (across < LEFT || event < 0 || event >= COUNT) return null;
   const values = CHARTS.map(([name, changes]) => `${name} ${number(valueAt(changes, event))}`).join(", ");
   if (lane < 0 || lane >= D.lanes.length) return [`event ${number(event)}`, values];
-  const reach = Math.ceil(4 / scale()), from = Math.max(0, event - (scale() < 4 ? reach : 0)), to = Math.min(COUNT - 1, event + (scale() < 4 ? reach : 0));
+  const reach = scale() < 4 ? Math.ceil(4 / scale()) : 0;
+  const from = Math.max(0, event - reach), to = Math.min(COUNT - 1, event + reach);
   const found = nearest(lane, from, to, event), out = [];
   if (found >= 0) out.push(...eventText(found));
   const under = taskUnder(lane, event);
@@ -323,37 +343,42 @@ function told(px, py) {
 }
 
 function point(mouse) {
-  const box = svg.getBoundingClientRect(), px = (mouse.clientX - box.left) * width / box.width, py = (mouse.clientY - box.top) * width / box.width;
-  return [px, py, told(px, py)];
+  const box = svg.getBoundingClientRect(), unit = width / box.width;
+  const across = (mouse.clientX - box.left) * unit, down = (mouse.clientY - box.top) * unit;
+  return [across, down, told(across, down)];
 }
 
 function tableOfSquashes() {
   const section = document.getElementById("squashes"), most = 500;
   if (!squashes.length) { section.innerHTML = "<h2>No task was squashed</h2>"; return; }
   const rows = squashes.slice(0, most).map(([task, n]) => {
-    const [, cell, predicted, found] = task[T.line].match(/^squashed (.*) predicted (\S+) found (\S+)$/);
-    const where = cell.startsWith("byte ") ? place(cell.slice(5)) : "";
-    return `<tr class="row" data-event="${task[T.ended]}"><td>${number(task[T.ended])}</td><td>${n}</td><td><code>${task[T.pc] || "not told"}</code>` +
-      `${escaped(place(task[T.pc]))}</td><td><code>${cell}</code>${escaped(where)}</td><td><code>${predicted}</code></td><td><code>${found}</code></td>` +
-      `<td>${number(task[T.position])}</td><td>${number(task[T.steps])}</td></tr>`;
+    const values = parts(task).map(([value, name]) => `<code>${value}</code>${escaped(name)}`);
+    const cells = [
+      number(task[T.ended]), n, `<code>${task[T.pc] || "not told"}</code>${escaped(place(task[T.pc]))}`,
+      ...values, number(task[T.position]), number(task[T.steps]),
+    ];
+    return `<tr class="row" data-event="${task[T.ended]}">${cells.map((text) => `<td>${text}</td>`).join("")}</tr>`;
   });
   const more = squashes.length > most ? `, the first ${most} of ${number(squashes.length)}` : "";
-  section.innerHTML = `<h2>Squashes${more}</h2><table><tr><th>event</th><th>task</th><th>it starts at</th><th>cell</th><th>predicted</th>` +
-    `<th>found</th><th>committed position</th><th>steps thrown away</th></tr>${rows.join("")}</table>`;
+  const heads = ["event", "task", "it starts at", "cell", "predicted", "found", "committed position", "its steps"];
+  const head = `<tr>${heads.map((text) => `<th>${text}</th>`).join("")}</tr>`;
+  section.innerHTML = `<h2>Squashes${more}</h2><table>${head}${rows.join("")}</table>`;
 }
 
 function head() {
   const s = D.summary;
-  document.getElementById("summary").innerHTML = `${number(COUNT)} events, ${D.slaves} slaves: committed position <b>${s.position}</b>, ` +
-    `<b>${s["by-tasks"]}</b> steps by <b>${s.tasks}</b> tasks and <b>${s.serial}</b> serial, <b>${s.squashed}</b> squashed, <b>${s.dropped}</b> dropped ` +
-    `behind a commit, end ${escaped(s.end)}` + (D.tasks.length ? "" : ". <b>No task was begun.</b>") + D.remarks.map((r) => `<br>${escaped(r)}`).join("");
+  const said = [`${number(COUNT)} events, ${D.slaves} slaves: committed position <b>${s.position}</b>`,
+    `<b>${s["by-tasks"]}</b> steps by tasks (<b>${s.tasks}</b>) and <b>${s.serial}</b> serial`, `<b>${s.squashed}</b> squashed`,
+    `<b>${s.dropped}</b> dropped behind a commit`, `end ${escaped(s.end)}`].join(", ");
+  const none = D.tasks.length ? "" : ". <b>No task was begun.</b>";
+  document.getElementById("summary").innerHTML = said + none + D.remarks.map((remark) => `<br>${escaped(remark)}`).join("");
   const swatch = FATES.map((fate) => `<span><i style="background:${COLOURS[fate]}"></i>${fate}</span>`).join("");
-  const names = [["restart", "restart"], ["fork", "fork"], ["stalled", "stalled"], ["halted", "halted"], ["reached", "done reached"], ["met", "done met"],
-    ["full", "done full"], ["commit", "commit"], ["squash", "squash"], ["end", "end of the run"], ["idle", "idle"]];
+  const names = ["restart", "fork", "stalled", "halted", "reached", "met", "full", "commit", "squash", "end", "idle"];
+  const texts = { reached: "done reached", met: "done met", full: "done full", end: "end of the run" };
   const mark = (name) => SHAPES.has(name) ? shape(name, 9, -6) : name === "idle" ? "M3 12h12v2h-12Z" : "M7.5 2h3v14h-3Z";
-  document.getElementById("legend").innerHTML = swatch + names.map(([name, text]) =>
+  document.getElementById("legend").innerHTML = swatch + names.map((name) =>
     `<span><svg viewBox="0 0 18 18"><path d="${mark(name)}" fill="${name === "full" ? "#fff" : MARKS[name]}"` +
-    `${name === "full" ? ` stroke="${MARKS.full}" stroke-width="1.5"` : ""}/></svg>${text}</span>`).join("");
+    `${name === "full" ? ` stroke="${MARKS.full}" stroke-width="1.5"` : ""}/></svg>${texts[name] || name}</span>`).join("");
 }
 
 // ---- what the reader does -----------------------------------------------------------------------------------------------
@@ -388,8 +413,8 @@ document.addEventListener("keydown", (e) => {
 });
 svg.addEventListener("wheel", (e) => {
   e.preventDefault();
-  const [px] = point(e);
-  zoom(e.deltaY > 0 ? 1.25 : 0.8, view[0] + (Math.max(LEFT, px) - LEFT) / scale());
+  const [across] = point(e);
+  zoom(e.deltaY > 0 ? 1.25 : 0.8, view[0] + (Math.max(LEFT, across) - LEFT) / scale());
 }, { passive: false });
 let drag = null;
 svg.addEventListener("pointerdown", (e) => { drag = { x: e.clientX, view: [...view], moved: false }; });
@@ -402,14 +427,14 @@ window.addEventListener("pointerup", (e) => {
   drag = null;
 });
 svg.addEventListener("pointermove", (e) => {
-  const [px, , text] = point(e);
+  const [across, , text] = point(e);
   if (drag && Math.abs(e.clientX - drag.x) > 3) {
     drag.moved = true;
     const shift = (drag.x - e.clientX) / scale();
     show(drag.view[0] + shift, drag.view[1] + shift);
   }
   const line = document.getElementById("cursor");
-  if (line && px >= LEFT) line.setAttribute("d", `M${px} ${TOP}V${height - GAP}`);
+  if (line && across >= LEFT) line.setAttribute("d", `M${across} ${TOP}V${height - GAP}`);
   tip.hidden = !text || (drag && drag.moved);
   if (!text) return;
   tip.textContent = text.join("\n");

@@ -10,6 +10,7 @@ from view.symbols import Names
 
 FOLDER = Path(__file__).resolve().parent
 WORDS = 8
+COLUMNS = ("slave", "begun", "done", "ended", "fate", "steps", "pc", "ending", "line", "behind", "restarted", "position")
 FATES = ("committed", "squashed", "dropped", "alive")
 
 
@@ -27,20 +28,8 @@ def lane_of(event: str, slaves: int) -> int:
 
 
 def _task_row(task: Task) -> list[object]:
-    return [
-        task.slave,
-        task.begun,
-        task.done,
-        task.ended,
-        FATES.index(task.fate),
-        task.steps,
-        task.pc,
-        task.ending,
-        task.line,
-        task.behind,
-        int(task.restarted),
-        task.position,
-    ]
+    """A task as the page reads it: its fate by number, and its other columns as they are."""
+    return [FATES.index(task.fate) if name == "fate" else getattr(task, name) for name in COLUMNS]
 
 
 def _addresses(story: Story) -> tuple[set[int], set[int]]:
@@ -61,6 +50,7 @@ def _addresses(story: Story) -> tuple[set[int], set[int]]:
 def data_of(story: Story, names: Names, files: dict[str, str]) -> dict[str, object]:
     """All that the page draws, as JSON writes it."""
     table = {line: at for at, line in enumerate(dict.fromkeys(story.lines))}
+    kinds = {event: at for at, event in enumerate(dict.fromkeys(story.events))}
     pcs, named = _addresses(story)
     return {
         "files": files,
@@ -70,9 +60,11 @@ def data_of(story: Story, names: Names, files: dict[str, str]) -> dict[str, obje
         "remarks": names.remarks,
         "lines": list(table),
         "line": [table[line] for line in story.lines],
-        "lane": "".join(chr(48 + lane_of(event, story.slaves)) for event in story.events),
-        "events": list(dict.fromkeys(story.events)),
+        "event": "".join(chr(48 + kinds[event]) for event in story.events),
+        "events": list(kinds),
+        "laneOf": [lane_of(event, story.slaves) for event in kinds],
         "task": story.tasks_at,
+        "columns": COLUMNS,
         "tasks": [_task_row(task) for task in story.tasks],
         "positions": [number for pair in story.positions for number in pair],
         "live": [number for pair in story.live for number in pair],

@@ -19,7 +19,7 @@ import tempfile
 from pathlib import Path
 
 sys.path[0] = str(Path(__file__).resolve().parent.parent)
-from view.lists import MOST, drawn, reached_at, round_of, save, text_of, written_out  # noqa: E402
+from view.lists import MOST, MOST_HELD, drawn, is_held, reached_at, round_of, save, text_of, written_out  # noqa: E402
 from view.program import BUILT, Mssp, Refused, end_with, input_words  # noqa: E402
 from view.story import SUMMARY  # noqa: E402
 
@@ -28,6 +28,7 @@ IN_VAIN = ("idle", "stalled")
 
 def lines_of(mssp: Mssp, words: argparse.Namespace, events: str) -> tuple[list[str], list[str]]:
     """The lines of a replay, and those of its summary."""
+    is_held(Path(events))
     put = mssp.call("replay", words.program, words.image, events, "--slaves", str(words.slaves), *input_words(words.input))
     lines = put.decode("latin-1").split("\n")
     end = next(at for at in range(len(lines)) if lines[at].startswith("position "))
@@ -37,16 +38,16 @@ def lines_of(mssp: Mssp, words: argparse.Namespace, events: str) -> tuple[list[s
 def rounds_to(mssp: Mssp, words: argparse.Namespace) -> list[str]:
     """The rounds until the position of `--to`."""
     one, count = round_of(words.slaves), max(16, words.to // words.slaves)
-    while count * len(one) <= MOST:
+    while count * len(one) <= MOST_HELD:
         with tempfile.NamedTemporaryFile("w") as file:
-            file.write(text_of(one * count))
+            file.write(text_of(one) * count)
             file.flush()
             lines, _ = lines_of(mssp, words, file.name)
         end = reached_at(lines, words.slaves, words.to)
         if end is not None:
             return (one * (end // len(one) + 1))[:end]
         count *= 2
-    raise Refused(f"{MOST} events don't come to position {words.to}", 2)
+    raise Refused(f"{MOST_HELD:,} events, the most that are held here, don't come to position {words.to}", 2)
 
 
 def squeezed(mssp: Mssp, words: argparse.Namespace) -> list[str]:
@@ -63,17 +64,19 @@ def squeezed(mssp: Mssp, words: argparse.Namespace) -> list[str]:
     return events
 
 
-def events_of(words: argparse.Namespace) -> list[str]:
-    """The events that the words ask for."""
+def list_of(words: argparse.Namespace) -> str:
+    """The list that the words ask for."""
     if words.to is not None or words.squeeze is not None:
         if words.image is None:
             raise Refused("PROGRAM and IMAGE are wanted with --to and --squeeze", 2)
         mssp = Mssp(words.mssp)
-        return rounds_to(mssp, words) if words.squeeze is None else squeezed(mssp, words)
-    count = words.rounds * (words.slaves + 7)
-    if count > MOST:
-        raise Refused(f"{count} events, and a list has at most {MOST}", 2)
-    return round_of(words.slaves) * words.rounds if words.seed is None else drawn(words.slaves, count, words.seed)
+        return text_of(rounds_to(mssp, words) if words.squeeze is None else squeezed(mssp, words))
+    count, most = words.rounds * (words.slaves + 7), MOST if words.seed is None else MOST_HELD
+    if count > most:
+        raise Refused(f"{count:,} events, and at most {most:,} can be asked for", 2)
+    if words.seed is None:
+        return "".join([text_of(round_of(words.slaves))] * words.rounds)
+    return text_of(drawn(words.slaves, count, words.seed))
 
 
 def words_of() -> argparse.Namespace:
@@ -99,7 +102,7 @@ def words_of() -> argparse.Namespace:
 def main() -> None:
     words = words_of()
     try:
-        save(text_of(events_of(words)), words.out)
+        save(list_of(words), words.out)
     except Refused as refused:
         end_with("rounds.py", refused)
 

@@ -42,7 +42,10 @@ def pausing_image(parts: list[tuple[int, bytes]]) -> bytes:
 
 def _one_pass(mssp: Mssp, words: list[str], folder: Path, positions: list[int]) -> tuple[dict[int, str], list[int]]:
     """The pcs at some of the positions, which rise, and the positions that are left for another pass."""
-    events, at, asked, left = [], 0, [], []
+    at = 0
+    events: list[str] = []
+    asked: list[tuple[int, int]] = []
+    left: list[int] = []
     for position in positions:
         if position - at < 1 and asked:  # a serial step is owed behind a task
             left.append(position)

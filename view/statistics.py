@@ -19,7 +19,7 @@ from dataclasses import dataclass
 from pathlib import Path
 
 sys.path[0] = str(Path(__file__).resolve().parent.parent)
-from view.lists import MOST, reached_at, round_of, text_of  # noqa: E402
+from view.lists import MOST_HELD, reached_at, round_of, text_of  # noqa: E402
 from view.program import REPOSITORY, Mssp, Refused, end_with, input_words  # noqa: E402
 
 EXAMPLES = REPOSITORY / "examples"
@@ -125,7 +125,7 @@ def shown(mssp: Mssp, image: Path) -> tuple[int, int, tuple[int, ...]]:
 def replayed(mssp: Mssp, guest: Guest, image: Path, room: Path, budget: int) -> list[str]:
     """The lines of the rounds that `run --image` gives up to its end or the budget."""
     one, count = round_of(SLAVES), budget // SLAVES + 64
-    while count * len(one) <= MOST:
+    while count * len(one) <= MOST_HELD:
         (room / "events").write_text(text_of(one) * count)
         words = ["--slaves", str(SLAVES), *input_words(guest.input)]
         put = mssp.call("replay", guest.file, image, room / "events", *words).decode("latin-1")
@@ -134,7 +134,7 @@ def replayed(mssp: Mssp, guest: Guest, image: Path, room: Path, budget: int) -> 
         if end is not None:
             return lines[:end]
         count *= 2
-    raise Refused(f"{guest.name}: {MOST} events don't come to the budget", 2)
+    raise Refused(f"{guest.name}: {MOST_HELD:,} events, the most that are held here, don't come to the budget", 2)
 
 
 def agrees(report: dict[str, str], counts: Counter[str], lines: list[str]) -> bool:
@@ -180,6 +180,7 @@ def measured(mssp: Mssp, guests: list[Guest], budget: int) -> dict[str, dict[tup
 
 
 def spelled(value: float | None, digits: int) -> str:
+    """A figure with so many digits, or a dash where there is none."""
     return "–" if value is None else f"{value:,.{digits}f}"
 
 

@@ -10,7 +10,7 @@ import re
 from dataclasses import dataclass, field
 from pathlib import Path
 
-from view.lists import written_out
+from view.lists import is_held, written_out
 from view.program import Mssp, Refused, input_words
 
 COMMITTED, SQUASHED, DROPPED, ALIVE = "committed", "squashed", "dropped", "alive"
@@ -169,5 +169,6 @@ def told(events: list[str], put: bytes, slaves: int) -> Story:
 
 def replayed(mssp: Mssp, program: str, image: str, events: str, input_file: str | None, slaves: int) -> Story:
     """Replays a list, and tells the story."""
+    is_held(Path(events))
     put = mssp.call("replay", program, image, events, "--slaves", str(slaves), *input_words(input_file))
     return told(written_out(Path(events)), put, slaves)

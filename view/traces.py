@@ -15,7 +15,7 @@ Entry = dict[str, object]
 PROCESS = 1
 
 
-def _slice(name: str, category: str, lane: int, start: int, length: int, **told: object) -> Entry:
+def _slice(name: str, category: str, lane: int, start: int, length: int, told: Entry) -> Entry:
     return {"name": name, "cat": category, "ph": "X", "pid": PROCESS, "tid": lane, "ts": start, "dur": length, "args": told}
 
 
@@ -34,8 +34,8 @@ def _of_task(story: Story, names: Names, task: Task) -> list[Entry]:
     if end <= task.begun + 1:
         return []
     place = names.place(int(task.pc, 16)) if task.pc else ""
-    bar = _slice(f"task {task.number}", "task", lane, task.begun + 1, end - task.begun - 1, fate=task.fate, steps=task.steps)
-    bar["args"] = {**bar["args"], "pc": task.pc, "place": place, "line": task.line}  # type: ignore[dict-item]
+    told: Entry = {"fate": task.fate, "steps": task.steps, "pc": task.pc, "place": place, "line": task.line}
+    bar = _slice(f"task {task.number}", "task", lane, task.begun + 1, end - task.begun - 1, told)
     arrow = {"name": "begins", "cat": "begins", "id": task.number, "pid": PROCESS}
     source = {**arrow, "ph": "s", "tid": 0 if task.restarted else 1, "ts": task.begun}
     return [bar, source, {**arrow, "ph": "f", "bp": "e", "tid": lane, "ts": task.begun + 1}]
@@ -52,7 +52,7 @@ def trace_of(story: Story, names: Names, files: dict[str, str]) -> str:
         entries += _of_task(story, names, task)
     for at, (event, line, number) in enumerate(zip(story.events, story.lines, story.tasks_at)):
         told: Entry = {"event": at} if number < 0 else {"event": at, "task": number}
-        entries.append(_slice(line, "event", lane_of(event, story.slaves), at, 1, **told))
+        entries.append(_slice(line, "event", lane_of(event, story.slaves), at, 1, told))
     for name, changes in (("committed position", story.positions), ("live tasks", story.live), ("master's lead", story.lead)):
         entries += _counter(name, changes)
     other = {**files, "axis": "a microsecond stands for one event", **story.summary}
