@@ -8,7 +8,7 @@ set -e
 cd "$(dirname "$0")"
 target=${1:-elf}
 compiler=(riscv64-unknown-elf-gcc -march=rv32im -mabi=ilp32)
-library=(--specs="${PICOLIBC_SPECS:-picolibc.specs}" -ffunction-sections -fdata-sections)
+library=(--specs=picolibc.specs -ffunction-sections -fdata-sections)
 quiet=(-Wl,--no-warn-rwx-segments -Wl,--build-id=none)
 room=$(mktemp -d)
 trap 'rm -rf "$room"' EXIT
