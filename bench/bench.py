@@ -52,9 +52,8 @@ is missing, or a figure is more than 5 in 100 above the number of its row, the s
 --masks distils programs of 2,000, 32,000 and 524,288 instructions by profiles that are made
 here, and prints the seconds and the greatest resident set of each: a line at whose end one
 register is read; and one at whose end 31 registers are read, one after the other, so that
-each goes up the line on its own.  A line that ends with a jump by a register to each of its
-instructions has 2,000, 4,000 and 8,000 of them, since that takes the square of their number.
-Then it times `trial 1 2000` and `trial 1 10000`.
+each goes up the line on its own; and one that ends with a jump by a register to each of its
+instructions.  Then it times `trial 1 2000` and `trial 1 10000`.
 """
 import argparse
 import atexit
@@ -557,10 +556,11 @@ def show_masks(binary, runs):
     print(f"processor seconds, best of {runs} runs, and MB (load {os.getloadavg()[0]:.1f})")
     one = [store(4, 5, 0, 0)]
     waves = [store(4, register, 0, 0) for register in range(1, 32)]
-    cases = [(name, count, line_of(count, last), ()) for count in (2_000, 32_000, 524_288)
-             for name, last in (("one register", one), ("31 registers", waves))]
-    for count in (2_000, 4_000, 8_000):
-        cases.append(("jump to all", count, line_of(count, [JUMP]), [0x10000 + 4 * place for place in range(count)]))
+    cases = []
+    for count in (2_000, 32_000, 524_288):
+        all_of_it = [0x10000 + 4 * place for place in range(count)]
+        lines = (("one register", one, ()), ("31 registers", waves, ()), ("jump to all", [JUMP], all_of_it))
+        cases += [(name, count, line_of(count, last), targets) for name, last, targets in lines]
     with tempfile.TemporaryDirectory() as folder:
         file, profile, image = (os.path.join(folder, name) for name in ("elf", "profile", "image"))
         for name, count, words, targets in cases:
