@@ -2,10 +2,10 @@
 
    interpreter run PROGRAM [--input FILE] [--budget STEPS] [--steps FILE]
 
-   It takes one instruction a turn and decodes it by switches; it keeps no decoded code and makes none.  Calls, ends, refusals and
-   statuses are those of `mssp run`, with `interpreter:` in front of each line on standard error.  --steps writes how many steps
-   the run had.  It knows nothing of mssp's sources: it is written from README.md, docs/FORMATS.md, examples/README.md and the RISC-V
-   manual.
+   It takes one instruction a turn and decodes it by switches; it keeps no decoded code and makes none.  Calls, ends, refusals
+   and statuses are those of `mssp run`, with `interpreter:` in front of each line on standard error.  --steps writes how many
+   steps the run had.  It knows nothing of mssp's sources: it is written from README.md, docs/FORMATS.md, examples/README.md and
+   the RISC-V manual.
 
    gcc -O2 -o interpreter interpreter.c      (for a little-endian host) */
 #include <errno.h>
