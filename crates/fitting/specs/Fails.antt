@@ -1,18 +1,18 @@
 -- When an assumption fails at a position of a run, and when the first n steps of a run meet the list.
-use Rattle.std.specs.Prelude.{◌≡◌, ◌≢◌, ℕ, ◌+◌, ◌<◌, ◌≤◌, suc, Bool, true, false, slice_get, Some, ◌⊎◌}
+use Rattle.std.specs.Prelude.{◌≡◌, ◌≢◌, ℕ, ◌+◌, ◌<◌, ◌≤◌, suc, Bool, true, false, nat_eq, slice_get, Some, ◌⊎◌}
 use Rattle.rv_word.specs.declared.inst.Inst.{Inst}
-use Rattle.rv_word.specs.declared.inst.Inst.TheVariants.{Branch, Jalr}
+use Rattle.rv_word.specs.declared.inst.Inst.TheVariants.{Branch, Jalr, Load}
 use Rattle.rv_word.specs.Meaning.{meaning}
 use Rattle.cells.specs.declared.Cell.TheVariants.{Byte}
 use Rattle.cells.specs.Cells.{Arch, value}
-use Rattle.cells.specs.Bytes.{word_of}
+use Rattle.cells.specs.Bytes.{number, word_of}
 use Rattle.cells.specs.Run.{State, is_over, iterate, EndsWithin, count_after}
 use Rattle.rv_run.specs.Values.{register_value}
-use Rattle.rv_run.specs.Effect.{holds, is_store}
-use Rattle.rv_run.specs.Machine.{machine, word_at}
+use Rattle.rv_run.specs.Effect.{holds, is_store, sum32, load_size, extended}
+use Rattle.rv_run.specs.Machine.{word_at}
 use Rattle.rv_run.specs.Calls.{step, writes}
-use Rattle.dist_image.specs.Image.{Premise, Cut, Targets, Dead, Code, Within, Span, Distilled}
-use Rattle.image_world.specs.World.{count_of}
+use Rattle.dist_image.specs.Image.{Premise, Cut, Targets, Dead, Code, Within, Span, Same, Distilled}
+use Rattle.image_world.specs.World.{task_machine, count_of}
 use Rattle.fitting.specs.Claims.{among}
 use Rattle.fitting.specs.Fits.{is_analysed, is_anchor_pc}
 
@@ -24,6 +24,11 @@ IsRegisterJump _ = ⊥
 abbrev pub Branches : Bool → Inst → Arch → Type 0
 Branches taken (Branch test rs1 rs2 off) s = holds test (register_value rs1 (value s)) (register_value rs2 (value s)) ≡ taken
 Branches taken _ s = ⊥
+
+-- what an instruction loads, extended to 32 bits, is this value; or it loads nothing
+abbrev pub loads_as : ℕ → Inst → Arch → Bool
+loads_as n (Load kind rd rs1 off) s = nat_eq (extended kind (number (load_size kind) (sum32 (register_value rs1 (value s)) off) s.mem)) n
+loads_as n _ s = true
 
 -- the program's word at a pc is the one that memory holds at the start
 abbrev pub program : State → ℕ → ℕ
@@ -63,27 +68,28 @@ module _ (start : State) (image : Distilled) where
     pub there : is_anchor_pc image (pc_at start (i + t)) ≡ true
     pub number : arrivals_after i t ≡ count
 
-  -- a call, or an instruction that ends the run, is at position i + t, before the task limit
+  -- a call that no task does, or an instruction that ends the run, is at position i + t, before the task limit
   pub record IsStop (i t : ℕ) : Type 0 where
     pub near : t < image.limit
     pub going : is_over (state_at start (i + t)) ≡ false
-    pub stops : machine.stops (arch_at start (i + t)) ≡ true
+    pub stops : (task_machine image).stops (arch_at start (i + t)) ≡ true
 
   -- from position i a task comes to the arrival of this number, or to a stop
   abbrev pub IsSpanned : ℕ → ℕ → Type 0
   IsSpanned i count = ((t : ℕ) × IsArrival i count t) ⊎ ((t : ℕ) × IsStop i t)
 
-  -- an assumption fails at position i. The first two and Within speak of no call, and of no step that ends the run
+  -- an assumption fails at position i. The first two and Within speak of steps that a task does alone
   abbrev pub Fails : Premise → ℕ → Type 0
-  Fails (Cut at taken) i = (pc_at start i ≡ at) × (machine.stops (arch_at start i) ≡ false) × Branches taken (fetched_at start i) (arch_at start i)
+  Fails (Cut at taken) i = (pc_at start i ≡ at) × ((task_machine image).stops (arch_at start i) ≡ false) × Branches taken (fetched_at start i) (arch_at start i)
   Fails (Targets at to) i =
-      (pc_at start i ≡ at) × (machine.stops (arch_at start i) ≡ false) × IsRegisterJump (fetched_at start i) × (among to (pc_at start (suc i)) ≡ false)
+      (pc_at start i ≡ at) × ((task_machine image).stops (arch_at start i) ≡ false) × IsRegisterJump (fetched_at start i) × (among to (pc_at start (suc i)) ≡ false)
   Fails (Dead at) i =
-      (a : ℕ) × (k : ℕ) × (machine.reads (arch_at start i) (Byte a) ≡ true) × IsLatestWriter start i a k × (pc_at start k ≡ at) × (is_store (fetched_at start k) ≡ true)
+      (a : ℕ) × (k : ℕ) × ((task_machine image).reads (arch_at start i) (Byte a) ≡ true) × IsLatestWriter start i a k × (pc_at start k ≡ at) × (is_store (fetched_at start k) ≡ true)
   Fails Code i = (is_analysed image (pc_at start i) ≡ true) × (word_at (arch_at start i) ≢ program start (pc_at start i))
   Fails Within i =
-      (is_analysed image (pc_at start i) ≡ true) × (machine.stops (arch_at start i) ≡ false) × (is_analysed image (pc_at start (suc i)) ≡ false)
+      (is_analysed image (pc_at start i) ≡ true) × ((task_machine image).stops (arch_at start i) ≡ false) × (is_analysed image (pc_at start (suc i)) ≡ false)
   Fails Span i = (count : ℕ) × (count_of image (pc_at start i) ≡ Some count) × (IsSpanned i count → ⊥)
+  Fails (Same at value) i = (pc_at start i ≡ at) × (loads_as value (fetched_at start i) (arch_at start i) ≡ false)
 
   -- the first n steps meet the list: at no position before n of the run does one of its assumptions fail
   abbrev pub Meets : ℕ → Type 0

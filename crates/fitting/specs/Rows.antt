@@ -2,11 +2,11 @@
 use Rattle.std.specs.Prelude.{ℕ, true, false, [], ◌∷◌}
 use Rattle.cells.specs.Run.{State}
 use Rattle.rv_run.specs.Start.{Loaded, start}
-use Rattle.rv_run.specs.Programs.{frame, exit_7, misfetch, ten_turns}
+use Rattle.rv_run.specs.Programs.{frame, hello, exit_7, misfetch, ten_turns}
 use Rattle.dist_image.specs.declared.image.Slot.TheVariants.{Exec, Go, Fork}
 use Rattle.dist_image.specs.declared.image.Anchor.{Anchor}
 use Rattle.dist_image.specs.declared.image.Note.{Note}
-use Rattle.dist_image.specs.Image.{Cut, Targets, Dead, Code, Within, Span, Distilled, nothing_known}
+use Rattle.dist_image.specs.Image.{Cut, Targets, Dead, Code, Within, Span, Same, Distilled, nothing_known}
 use Rattle.fitting.specs.Fits.{Fits}
 use Rattle.fitting.specs.Fails.{program, Fails}
 
@@ -25,6 +25,7 @@ never_true = frame (0x00A00293 ∷ 0x0002A313 ∷ 0x00031863 ∷ 0xFFF28293 ∷ 
 -- the comparison and its branch are passed over, and so are the words at the end that set what only the call reads
 abbrev pub never_image : Distilled
 never_image = record {
+  version = 1;
   limit = 64;
   slots =
       Fork 0 ∷ Exec 0x00010000 0x00a00293 ∷ Fork 1 ∷ Exec 0x0001000c 0xfff28293 ∷ Exec 0x00010010 0xfe029ae3
@@ -42,6 +43,7 @@ never_image = record {
       ∷ note 0x00010024 6 0x00 0x00
       ∷ [];
   assumptions = Cut 0x00010008 true ∷ Code ∷ Within ∷ Span ∷ [];
+  writes = [];
 }
 
 -- without its Cut the branch may not be passed over
@@ -78,6 +80,7 @@ store_for_write = frame (0x000205B7 ∷ 0x04100293 ∷ 0x00558023 ∷ 0x00100513
 -- the store is dead, and all words but the two calls are passed over
 abbrev pub store_image : Distilled
 store_image = record {
+  version = 1;
   limit = 1024;
   slots = Fork 0 ∷ Exec 0x00010018 0x00000073 ∷ Fork 1 ∷ Exec 0x00010024 0x00000073 ∷ [];
   anchors = anchor 0x00010000 0 1 ∷ anchor 0x0001001c 2 1 ∷ [];
@@ -94,6 +97,7 @@ store_image = record {
       ∷ note 0x00010024 3 0x000 0x000
       ∷ [];
   assumptions = Dead 0x00010008 ∷ Code ∷ Within ∷ Span ∷ [];
+  writes = [];
 }
 
 abbrev pub undead_image : Distilled
@@ -105,11 +109,13 @@ jump_ahead = frame (0x00000297 ∷ 0x008280E7 ∷ 0x00000073 ∷ [])
 
 abbrev pub jump_image : Distilled
 jump_image = record {
+  version = 1;
   limit = 16;
   slots = Fork 0 ∷ Exec 0x00010000 0x00000297 ∷ Exec 0x00010004 0x008280E7 ∷ Exec 0x00010008 0x00000073 ∷ [];
   anchors = anchor 0x00010000 0 1 ∷ [];
   notes = note 0x00010000 0 0x00 0x00 ∷ note 0x00010004 2 0x20 0x20 ∷ note 0x00010008 3 0x00 0x00 ∷ [];
   assumptions = Targets 0x00010004 (0x00010008 ∷ []) ∷ Code ∷ Within ∷ Span ∷ [];
+  writes = [];
 }
 
 abbrev pub unaimed_image : Distilled
@@ -122,11 +128,13 @@ always_taken = frame (0x00128293 ∷ 0xFE000EE3 ∷ [])
 -- the branch is passed over by a Go
 abbrev pub taken_image : Distilled
 taken_image = record {
+  version = 1;
   limit = 16;
   slots = Fork 0 ∷ Exec 0x00010000 0x00128293 ∷ Go 0x00010000 ∷ [];
   anchors = anchor 0x00010000 0 1 ∷ [];
   notes = note 0x00010000 0 0x20 0x20 ∷ note 0x00010004 2 0x20 0x20 ∷ [];
   assumptions = Cut 0x00010004 false ∷ Code ∷ Within ∷ Span ∷ [];
+  writes = [];
 }
 
 -- its other side is cut, so the Go leads where it does not go on
@@ -159,12 +167,86 @@ branch_aside = frame (0x00000363 ∷ [])
 -- it is passed over
 abbrev pub branch_image : Distilled
 branch_image = record {
+  version = 1;
   limit = 16;
   slots = Fork 0 ∷ Go 0x00010004 ∷ [];
   anchors = anchor 0x00010000 0 1 ∷ [];
   notes = note 0x00010000 0 0 0 ∷ [];
   assumptions = Cut 0x00010000 true ∷ Code ∷ Within ∷ Span ∷ [];
+  writes = [];
 }
+
+-- a program that prints: the call at 0x00010014 is a step of a task
+abbrev pub hello_image : Distilled
+hello_image = record {
+  version = 2;
+  limit = 4096;
+  slots =
+      Fork 0 ∷ Exec 0x00010000 0x00100513 ∷ Exec 0x00010004 0x00000597 ∷ Exec 0x00010008 0x02058593 ∷ Exec 0x0001000c 0x00300613
+      ∷ Exec 0x00010010 0x04000893 ∷ Exec 0x00010014 0x00000073 ∷ Fork 1 ∷ Exec 0x00010020 0x00000073 ∷ [];
+  anchors = anchor 0x00010000 0 50 ∷ anchor 0x00010018 7 50 ∷ [];
+  notes =
+      note 0x00010000 0 0x00 0x00
+      ∷ note 0x00010004 2 0x400 0x400
+      ∷ note 0x00010008 3 0xc00 0xc00
+      ∷ note 0x0001000c 4 0xc00 0xc00
+      ∷ note 0x00010010 5 0x1c00 0x1c00
+      ∷ note 0x00010014 6 0x21c00 0x21c00
+      ∷ note 0x00010018 7 0x00 0x00
+      ∷ note 0x0001001c 8 0x00 0x00
+      ∷ note 0x00010020 8 0x00 0x00
+      ∷ [];
+  assumptions = Code ∷ Within ∷ Span ∷ [];
+  writes = 0x00010014 ∷ [];
+}
+
+-- the number of its bytes is not live at the call
+abbrev pub unlisted_image : Distilled
+unlisted_image = record hello_image {
+  notes =
+      note 0x00010000 0 0x00 0x00
+      ∷ note 0x00010004 2 0x400 0x400
+      ∷ note 0x00010008 3 0xc00 0xc00
+      ∷ note 0x0001000c 4 0xc00 0xc00
+      ∷ note 0x00010010 5 0xc00 0xc00
+      ∷ note 0x00010014 6 0x20c00 0x20c00
+      ∷ note 0x00010018 7 0x00 0x00
+      ∷ note 0x0001001c 8 0x00 0x00
+      ∷ note 0x00010020 8 0x00 0x00
+      ∷ [];
+}
+
+-- a loop of five turns that loads one word, which is 0 and stays so, and adds it up
+abbrev pub one_value : Loaded
+one_value = frame (0x000203B7 ∷ 0x00A00293 ∷ 0x0003A303 ∷ 0x00640433 ∷ 0xFFF28293 ∷ 0xFE029AE3 ∷ 0x00000513 ∷ 0x05D00893 ∷ 0x00000073 ∷ [])
+
+-- in the load's place its register is set to 0
+abbrev pub value_image : Distilled
+value_image = record {
+  version = 2;
+  limit = 4096;
+  slots =
+      Fork 0 ∷ Exec 0x00010000 0x000203B7 ∷ Exec 0x00010004 0x00A00293 ∷ Fork 1 ∷ Exec 0x00010008 0x00000313 ∷ Exec 0x0001000c 0x00640433
+      ∷ Exec 0x00010010 0xFFF28293 ∷ Exec 0x00010014 0xFE029AE3 ∷ Exec 0x00010020 0x00000073 ∷ [];
+  anchors = anchor 0x00010000 0 50 ∷ anchor 0x00010008 3 50 ∷ [];
+  notes =
+      note 0x00010000 0 0x100 0x100
+      ∷ note 0x00010004 2 0x180 0x180
+      ∷ note 0x00010008 3 0x1a0 0x1a0
+      ∷ note 0x0001000c 5 0x1e0 0x1e0
+      ∷ note 0x00010010 6 0x1a0 0x1a0
+      ∷ note 0x00010014 7 0x1a0 0x1a0
+      ∷ note 0x00010018 8 0x00 0x00
+      ∷ note 0x0001001c 8 0x00 0x00
+      ∷ note 0x00010020 8 0x00 0x00
+      ∷ [];
+  assumptions = Code ∷ Within ∷ Span ∷ Same 0x00010008 0 ∷ [];
+  writes = [];
+}
+
+-- the value that is claimed is another
+abbrev pub misset_image : Distilled
+misset_image = record value_image { assumptions = Code ∷ Within ∷ Span ∷ Same 0x00010008 1 ∷ [] }
 
 abbrev pub Never : Type 0 → Type 0
 Never P = P → ⊥
@@ -190,6 +272,10 @@ pub record FittingRows : Type 0 where
   pub lacking : Never (FitsIn always_taken lacking_image)
   pub next : Never (FitsIn branch_next branch_image)
   pub aside : Never (FitsIn branch_aside branch_image)
+  pub printed : FitsIn hello hello_image
+  pub unprinted : Never (FitsIn hello unlisted_image)
+  pub constant : FitsIn one_value value_image
+  pub misset : Never (FitsIn one_value misset_image)
 
 -- ---- failing assumptions
 
@@ -271,3 +357,48 @@ pub record SpanRows : Type 0 where
   pub stopped_here : Never (Fails exiting (anchored 1 0x00010008 1) Span 2)
   pub stopped : Never (Fails exiting (anchored 3 0x00010000 1) Span 0)
   pub stopped_late : Fails exiting (anchored 2 0x00010000 1) Span 0
+
+-- ---- loads of one value
+
+abbrev pub loading : State
+loading = start one_value []
+
+-- a byte is loaded for register 0: the lowest of the word at 0x00010000
+abbrev pub loading_byte : State
+loading_byte = start (frame (0x00000297 ∷ 0x00028003 ∷ [])) []
+
+pub record SameRows : Type 0 where
+  pub other : Fails loading nothing_known (Same 0x00010008 1) 2
+  pub same : Never (Fails loading nothing_known (Same 0x00010008 0) 2)
+  pub elsewhere : Never (Fails loading nothing_known (Same 0x0001000c 1) 2)
+  pub no_load : Never (Fails loading nothing_known (Same 0x0001000c 1) 3)
+  -- the value is the one that a register is given, here 0xFFFFFF97 for the byte 0x97
+  pub extended : Never (Fails loading_byte nothing_known (Same 0x00010004 0xFFFFFF97) 1)
+  pub unextended : Fails loading_byte nothing_known (Same 0x00010004 0x97) 1
+
+-- ---- calls that a task does
+
+-- a store of a byte, and a call that shows it
+abbrev pub showing : State
+showing = start store_for_write []
+
+abbrev pub greeting : State
+greeting = start hello []
+
+-- the same with 257 bytes: one more than a task shows
+abbrev pub greeting_at_length : State
+greeting_at_length = start (frame (0x00100513 ∷ 0x00000597 ∷ 0x02058593 ∷ 0x10100613 ∷ 0x04000893 ∷ 0x00000073 ∷ [])) []
+
+-- tasks of the image may print at this pc
+abbrev pub listing : ℕ → Distilled → Distilled
+listing pc image = record image { writes = pc ∷ [] }
+
+-- where a task does a call, what it shows is read there, and the call is a step that does not stop it
+pub record PrintRows : Type 0 where
+  pub shown : Fails showing (listing 0x00010018 nothing_known) (Dead 0x00010008) 6
+  pub unshown : Never (Fails showing nothing_known (Dead 0x00010008) 6)
+  pub left : Fails greeting (listing 0x00010014 (noting 0x00010014)) Within 5
+  pub stopped : Never (Fails greeting (noting 0x00010014) Within 5)
+  pub too_long : Never (Fails greeting_at_length (listing 0x00010014 (noting 0x00010014)) Within 5)
+  pub far : Fails greeting (listing 0x00010014 (anchored 3 0x00010014 1)) Span 5
+  pub near : Never (Fails greeting (anchored 3 0x00010014 1) Span 5)

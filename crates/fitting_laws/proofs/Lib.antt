@@ -7,4 +7,4 @@ pub mod Shows
 pub mod Meeting
 pub mod Sets
 pub mod Safe
-pub mod Exit
+pub mod Constants

@@ -1,22 +1,24 @@
 -- A run that meets the list of an image that fits has what the laws against squashes ask of it.
-use Rattle.std.proofs.Common.{◌≡◌, ℕ, ◌+◌, ◌<◌, ◌≤◌, zero, suc, Bool, true, false, ◌&&◌, cond, List, Some, refl, sym, ap, ◌∙◌, subst, arith, inl, inr, ⊎_elim, ◌⊎◌, true≢false, eqb-true}
+use Rattle.std.proofs.Common.{◌≡◌, ℕ, ◌+◌, ◌<◌, ◌≤◌, zero, suc, Bool, true, false, ◌&&◌, cond, List, [], ◌∷◌, Option, Some, None, refl, sym, ap, ◌∙◌, subst, arith, inl, inr, ⊎_elim, ◌⊎◌, true≢false, eqb-true, eq-eqb}
 use Rattle.std.specs.Prelude.{nat_eq}
-use Rattle.std.proofs.lemmas.Bool.{and_parts, eqb-false, not-false}
+use Rattle.std.proofs.lemmas.Bool.{and_parts, or_left, eqb-false, not-false}
 use Rattle.rv_word.specs.Meaning.{meaning}
-use Rattle.cells.specs.declared.Cell.TheVariants.{Byte}
+use Rattle.cells.specs.declared.Cell.TheVariants.{Reg, Byte}
 use Rattle.cells.specs.Cells.{value}
-use Rattle.cells.specs.Run.{State, is_over, printed}
+use Rattle.cells.specs.Run.{State, is_over}
 use Rattle.squash_laws.specs.Fits as seen
-use Rattle.rv_run.specs.Effect.{effect_at, is_store}
-use Rattle.rv_run.specs.Machine.{machine, word_at, is_next, pc_after, moved}
-use Rattle.rv_run.specs.Calls.{call, writes}
-use Rattle.dist_image.specs.Image.{Premise, Cut, Targets, Dead, Code, Within, Span, Distilled}
-use Rattle.image_world.specs.World.{count_of}
-use Rattle.fitting.specs.Claims.{among, claims, leads}
+use Rattle.rv_run.specs.Effect.{Effect, next, after, effect_at, is_store}
+use Rattle.rv_run.specs.Prints.{is_call, asks, is_task_call, task_effect}
+use Rattle.rv_run.proofs.Tasks.{is_call_is, own_effect, moves}
+use Rattle.rv_run.specs.Machine.{word_at, is_next, pc_after, moved}
+use Rattle.rv_run.specs.Calls.{writes}
+use Rattle.dist_image.specs.Image.{Premise, Cut, Targets, Dead, Code, Within, Span, Same, Distilled, prints_at}
+use Rattle.image_world.specs.World.{task_machine, count_of}
+use Rattle.fitting.specs.Claims.{among, claims, leads, same_at}
 use Rattle.fitting.specs.Fits.{Fits, IsListed, IsAimed, is_analysed}
-use Rattle.fitting.specs.Fails.{state_at, arch_at, pc_at, fetched_at, program, Fails, Meets, IsLatestWriter, IsArrival, IsStop, IsSpanned, IsRegisterJump, arrivals_after}
-use Rattle.fitting_laws.specs.Setting.{setting}
-use Rattle.fitting_laws.proofs.Found.{at_note, cut_listed, targets_listed, dead_listed}
+use Rattle.fitting.specs.Fails.{state_at, arch_at, pc_at, fetched_at, program, Fails, Meets, IsLatestWriter, IsArrival, IsStop, IsSpanned, IsRegisterJump, arrivals_after, loads_as}
+use Rattle.fitting_laws.specs.Setting.{holds_as, setting}
+use Rattle.fitting_laws.proofs.Found.{at_note, cut_listed, targets_listed, dead_listed, same_listed}
 use Rattle.fitting_laws.proofs.Goes.{goes_on}
 
 module _ (start : State) (image : Distilled) (slaves : ℕ) (fits : Fits (program start) image) (n : ℕ) (meets : Meets start image n) where
@@ -31,45 +33,63 @@ module _ (start : State) (image : Distilled) (slaves : ℕ) (fits : Fits (progra
       go true e = eqb-true (word_at (arch_at start i)) (program start (pc_at start i)) e
       go false e = absurd (fails Code fits.listed.0 i l going (has, eqb-false (word_at (arch_at start i)) (program start (pc_at start i)) e))
 
-  within : (i : ℕ) → i < n → is_over (state_at start i) ≡ false → is_analysed image (pc_at start i) ≡ true → machine.stops (arch_at start i) ≡ false → is_analysed image (pc_at start (suc i)) ≡ true
+  within : (i : ℕ) → i < n → is_over (state_at start i) ≡ false → is_analysed image (pc_at start i) ≡ true → (task_machine image).stops (arch_at start i) ≡ false → is_analysed image (pc_at start (suc i)) ≡ true
   within i l going has quiet = go (is_analysed image (pc_at start (suc i))) refl
     where
       go : (b : Bool) → is_analysed image (pc_at start (suc i)) ≡ b → b ≡ true
       go true e = refl
       go false e = absurd (fails Within fits.listed.1 i l going (has, quiet, e))
 
-  moved_pc : (i : ℕ) → (machine.move (arch_at start i)).pc ≡ pc_after (pc_at start i) (effect_at (fetched_at start i) (pc_at start i) (value (arch_at start i))).flow
-  unfolding moved
-  moved_pc i = refl
-
   -- where the run goes on
-  next_at : (i : ℕ) → is_over (state_at start i) ≡ false → machine.stops (arch_at start i) ≡ false
-      → pc_at start (suc i) ≡ pc_after (pc_at start i) (effect_at (fetched_at start i) (pc_at start i) (value (arch_at start i))).flow
-  next_at i going quiet = go (is_over (state_at start i)) (machine.stops (arch_at start i)) going quiet ∙ moved_pc i
-    where
-      go : (b c : Bool) → b ≡ false → c ≡ false
-          → (cond b (state_at start i) (cond c (call (state_at start i)) (record { arch = machine.move (arch_at start i); env = printed (state_at start i).env (machine.says (arch_at start i)) }))).arch.pc ≡ (machine.move (arch_at start i)).pc
-      go true c e f = absurd (true≢false e)
-      go false true e f = absurd (true≢false f)
-      go false false e f = refl
+  abbrev prints : ℕ → Bool
+  prints = prints_at image
 
-  follows : (i : ℕ) → i < n → is_over (state_at start i) ≡ false → is_analysed image (pc_at start i) ≡ true → machine.stops (arch_at start i) ≡ false
+  next_at : (i : ℕ) → is_over (state_at start i) ≡ false → (task_machine image).stops (arch_at start i) ≡ false
+      → pc_at start (suc i) ≡ pc_after (pc_at start i) (task_effect prints (fetched_at start i) (pc_at start i) (value (arch_at start i))).flow
+  unfolding moved
+  next_at i going quiet = ap (λ (s : State). s.arch.pc) (moves prints (state_at start i) going quiet)
+
+  follows : (i : ℕ) → i < n → is_over (state_at start i) ≡ false → is_analysed image (pc_at start i) ≡ true → (task_machine image).stops (arch_at start i) ≡ false
       → among (leads (claims image) (pc_at start i) (meaning (program start (pc_at start i)))) (pc_at start (suc i)) ≡ true
   follows i l going has quiet =
       ap (λ c. among (leads (claims image) (pc_at start i) (meaning c)) (pc_at start (suc i))) (sym (code i l going has))
-      ∙ ap (among (leads (claims image) (pc_at start i) (fetched_at start i))) (next_at i going quiet)
-      ∙ goes_on (claims image) (arch_at start i) (fetched_at start i)
-      (not-false (is_next (effect_at (fetched_at start i) (pc_at start i) (value (arch_at start i))).flow) quiet)
-      (λ taken e went. fails (Cut (pc_at start i) taken) (cut_listed image (pc_at start i) taken e) i l going (refl, quiet, went))
-      (λ to e jumps. sym (ap (among to) (next_at i going quiet)) ∙ targeted to e jumps (among to (pc_at start (suc i))) refl)
-      (subst (λ c. IsAimed (claims image) (pc_at start i) (meaning c)) (sym (code i l going has)) (aimed (pc_at start i) has))
+      ∙ by (asks prints (fetched_at start i) (pc_at start i)) refl
     where
+      -- a call that the task does leads to the next pc
+      called : (b : Bool) → is_call (fetched_at start i) ≡ true → prints (pc_at start i) ≡ true
+          → is_next (cond b (next (pc_at start i) ((Reg 10, value (arch_at start i) (Reg 12)) ∷ [])) (effect_at (fetched_at start i) (pc_at start i) (value (arch_at start i)))).flow ≡ true
+          → among (leads (claims image) (pc_at start i) (fetched_at start i)) (pc_after (pc_at start i) (cond b (next (pc_at start i) ((Reg 10, value (arch_at start i) (Reg 12)) ∷ [])) (effect_at (fetched_at start i) (pc_at start i) (value (arch_at start i)))).flow) ≡ true
+      called false call listed h = absurd (true≢false (sym h ∙ ap (λ j. is_next (effect_at j (pc_at start i) (value (arch_at start i))).flow) (is_call_is (fetched_at start i) call)))
+      called true call listed h =
+          ap (λ j. among (leads (claims image) (pc_at start i) j) (after (pc_at start i))) (is_call_is (fetched_at start i) call)
+          ∙ ap (λ b. among (cond b (after (pc_at start i) ∷ []) []) (after (pc_at start i))) listed
+          ∙ or_left (nat_eq (after (pc_at start i)) (after (pc_at start i))) false (eq-eqb (after (pc_at start i)) (after (pc_at start i)) refl)
+
+      goes : is_next (task_effect prints (fetched_at start i) (pc_at start i) (value (arch_at start i))).flow ≡ true
+      goes = not-false (is_next (task_effect prints (fetched_at start i) (pc_at start i) (value (arch_at start i))).flow) quiet
+
       aimed : (pc : ℕ) → is_analysed image pc ≡ true → IsAimed (claims image) pc (meaning (program start pc))
       aimed pc has = at_note image (λ pc. IsAimed (claims image) pc (meaning (program start pc))) (λ k x at own. fits.aimed k x at) pc has
 
       targeted : (to : List ℕ) → (claims image).targets (pc_at start i) ≡ Some to → IsRegisterJump (fetched_at start i) → (b : Bool) → among to (pc_at start (suc i)) ≡ b → b ≡ true
       targeted to e jumps true f = refl
       targeted to e jumps false f = absurd (fails (Targets (pc_at start i) to) (targets_listed image (pc_at start i) to e) i l going (refl, quiet, jumps, f))
+
+      by : (b : Bool) → asks prints (fetched_at start i) (pc_at start i) ≡ b → among (leads (claims image) (pc_at start i) (fetched_at start i)) (pc_at start (suc i)) ≡ true
+      by true e =
+          let both = and_parts (prints (pc_at start i)) (is_call (fetched_at start i)) e in
+          ap (among (leads (claims image) (pc_at start i) (fetched_at start i))) (next_at i going quiet)
+          ∙ called (is_task_call prints (fetched_at start i) (pc_at start i) (value (arch_at start i))) both.1 both.0 goes
+      by false e =
+          let own = own_effect prints (fetched_at start i) (pc_at start i) (value (arch_at start i)) e in
+          let at : pc_at start (suc i) ≡ pc_after (pc_at start i) (effect_at (fetched_at start i) (pc_at start i) (value (arch_at start i))).flow =
+          next_at i going quiet ∙ ap (λ (f : Effect). pc_after (pc_at start i) f.flow) own in
+          ap (among (leads (claims image) (pc_at start i) (fetched_at start i))) at
+          ∙ goes_on (claims image) (arch_at start i) (fetched_at start i)
+          (sym (ap (λ (f : Effect). is_next f.flow) own) ∙ goes)
+          (λ taken e went. fails (Cut (pc_at start i) taken) (cut_listed image (pc_at start i) taken e) i l going (refl, quiet, went))
+          (λ to e jumps. sym (ap (among to) at) ∙ targeted to e jumps (among to (pc_at start (suc i))) refl)
+          (subst (λ c. IsAimed (claims image) (pc_at start i) (meaning c)) (sym (code i l going has)) (aimed (pc_at start i) has))
 
   -- a stale byte has a latest writer, a store that the list calls dead
   Wrote : ℕ → ℕ → Type 0
@@ -97,7 +117,7 @@ module _ (start : State) (image : Distilled) (slaves : ℕ) (fits : Fits (progra
             r.2,
           )
 
-  fresh : (i a : ℕ) → i < n → is_over (state_at start i) ≡ false → machine.reads (arch_at start i) (Byte a) ≡ true → seen.stale (setting start image slaves n) i a ≡ false
+  fresh : (i a : ℕ) → i < n → is_over (state_at start i) ≡ false → (task_machine image).reads (arch_at start i) (Byte a) ≡ true → seen.stale (setting start image slaves n) i a ≡ false
   unfolding Wrote
   fresh i a l going reads = go (seen.stale (setting start image slaves n) i a) refl
     where
@@ -109,7 +129,7 @@ module _ (start : State) (image : Distilled) (slaves : ℕ) (fits : Fits (progra
           absurd (fails (Dead (pc_at start r.0)) (dead_listed image (pc_at start r.0) parts.0) i l going (a, r.0, reads, r.1, refl, parts.1))
 
   span : (i c : ℕ) → i < n → is_over (state_at start i) ≡ false → count_of image (pc_at start i) ≡ Some c
-      → (((t : ℕ) × (t ≤ image.limit) × (c ≤ arrivals_after start image i t)) ⊎ ((t : ℕ) × (t < image.limit) × (machine.stops (arch_at start (i + t)) ≡ true)) → ⊥) → ⊥
+      → (((t : ℕ) × (t ≤ image.limit) × (c ≤ arrivals_after start image i t)) ⊎ ((t : ℕ) × (t < image.limit) × ((task_machine image).stops (arch_at start (i + t)) ≡ true)) → ⊥) → ⊥
   span i c l going anchor neither =
       fails Span fits.listed.2 i l going (
         c,
@@ -121,5 +141,16 @@ module _ (start : State) (image : Distilled) (slaves : ℕ) (fits : Fits (progra
             either),
       )
 
+  holds : (i : ℕ) → i < n → is_over (state_at start i) ≡ false → holds_as (same_at image (pc_at start i)) (fetched_at start i) (arch_at start i) ≡ true
+  holds i l going = go (same_at image (pc_at start i)) refl
+    where
+      loads : (v : ℕ) → same_at image (pc_at start i) ≡ Some v → (b : Bool) → loads_as v (fetched_at start i) (arch_at start i) ≡ b → b ≡ true
+      loads v e true f = refl
+      loads v e false f = absurd (fails (Same (pc_at start i) v) (same_listed image (pc_at start i) v e) i l going (refl, f))
+
+      go : (o : Option ℕ) → same_at image (pc_at start i) ≡ o → holds_as o (fetched_at start i) (arch_at start i) ≡ true
+      go None e = refl
+      go (Some v) e = loads v e (loads_as v (fetched_at start i) (arch_at start i)) refl
+
   pub meets_shown : seen.Meets (setting start image slaves n)
-  meets_shown = record { code = code; within = within; follows = follows; fresh = fresh; span = span }
+  meets_shown = record { code = code; within = within; follows = follows; fresh = fresh; holds = holds; span = span }

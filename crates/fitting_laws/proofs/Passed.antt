@@ -10,6 +10,7 @@ use Rattle.cells.specs.declared.Cell.TheVariants.{Reg, Byte}
 use Rattle.cells.specs.Seen.{puts_of}
 use Rattle.rv_run.specs.Values.{register_puts}
 use Rattle.rv_run.specs.Effect.{effect, jumped, branched, sum32, holds, after, is_store}
+use Rattle.rv_run.specs.Prints.{is_call}
 use Rattle.rv_run.specs.Machine.{is_next}
 use Rattle.fitting.specs.Claims.{Claims, among, sides, leads, side_left, goes_on_at}
 use Rattle.fitting.specs.Fits.{MayPass, AreApart}
@@ -87,6 +88,21 @@ module _ (c : Claims) (pc need : ℕ) where
       go Ecall may = absurd may
       go Ebreak may = absurd may
       go (Illegal w) may = absurd may
+
+  pub no_call : (i : Inst) → MayPass c pc need i → is_call i ≡ false
+  no_call (Lui rd imm) may = refl
+  no_call (Auipc rd imm) may = refl
+  no_call (Jal rd off) may = absurd may
+  no_call (Jalr rd rs1 off) may = absurd may
+  no_call (Branch test rs1 rs2 off) may = refl
+  no_call (Load kind rd rs1 off) may = refl
+  no_call (Store kind rs1 rs2 off) may = refl
+  no_call (OpImm op rd rs1 imm) may = refl
+  no_call (Op op rd rs1 rs2) may = refl
+  no_call (Fence w) may = refl
+  no_call Ecall may = absurd may
+  no_call Ebreak may = absurd may
+  no_call (Illegal w) may = absurd may
 
   -- it is no call, and never ends a run
   pub goes : (i : Inst) (a b n : ℕ) → MayPass c pc need i → is_next (effect i pc a b n).flow ≡ true

@@ -6,7 +6,7 @@
 #![tactic(auto)]
 
 ghost use Rattle.image_world.specs.Laws.{WorldsAreKnown, AnchorsAreFound};
-ghost use Rattle.image_world.specs.Rows.{TurnsReach, CallsAreMet, RunsEnd, CirclesFork, StraysAreLost};
+ghost use Rattle.image_world.specs.Rows.{TurnsReach, CallsAreMet, RunsEnd, CirclesFork, StraysAreLost, TasksPrint, HelloIsSaid, MasterRows, RecordRows};
 
 /// The world of every image meets what the laws of speculation ask of a world, whatever program is
 /// run and whether or not the image fits it.
@@ -19,11 +19,15 @@ pub fn anchors_are_found()
     ensures { AnchorsAreFound }
 {}
 
-/// Events over images of small programs, and what they answer.
+/// Events over images of small programs, and what they answer; what tasks record and print.
 pub fn rows_are_worked()
     ensures turns { TurnsReach }
     ensures met { CallsAreMet }
     ensures ended { RunsEnd }
     ensures circle { CirclesFork }
     ensures lost { StraysAreLost }
+    ensures prints { TasksPrint }
+    ensures said { HelloIsSaid }
+    ensures master { MasterRows }
+    ensures recorded { RecordRows }
 {}

@@ -1,19 +1,21 @@
 -- What an instruction does rests on what it reads.
-use Rattle.std.proofs.Common.{◌≡◌, ℕ, zero, suc, ◌+◌, ◌*◌, ◌%◌, ◌^◌, ◌<◌, Bool, true, false, not, cond, ◌||◌, refl, sym, ap, ◌∙◌, subst, List, [], ◌∷◌, ◌++◌, Option, Some, None, is_some, unwrap_or, arith, ⊎_elim, true≢false, eqb-true}
+use Rattle.std.proofs.Common.{◌≡◌, ℕ, zero, suc, ◌+◌, ◌*◌, ◌%◌, ◌^◌, ◌<◌, Bool, true, false, not, cond, ◌||◌, ◌&&◌, refl, sym, ap, ◌∙◌, subst, List, [], ◌∷◌, ◌++◌, Option, Some, None, is_some, unwrap_or, arith, ⊎_elim, true≢false, eqb-true}
 use lib.Dec.{eqb}
-use Rattle.std.specs.Prelude.{nat_eq}
+use Rattle.std.specs.Prelude.{nat_eq, nat_le}
 use Rattle.std.specs.List.{flat_map}
 use Rattle.std.proofs.lemmas.Bool.{or_left, or_right, or_cases, eq-eqb, eqb-false}
+use Rattle.std.proofs.lemmas.Bool.Decides.{nat_tests}
 use Rattle.rv_word.specs.declared.inst.Inst.{Inst}
 use Rattle.rv_word.specs.Masks.{sources}
 use Rattle.cells.specs.declared.Cell.{Cell}
 use Rattle.cells.specs.declared.Cell.TheVariants.{Pc, Reg, Byte}
 use Rattle.cells.specs.Cells.{Arch, value, is_pc, same_cell, IsCell}
-use Rattle.cells.specs.Bytes.{byte_cells, number}
+use Rattle.cells.specs.Bytes.{byte_cells, bytes_from, number}
 use Rattle.cells.specs.Machine.{Machine, IsLocal, SameSeen}
 use Rattle.cells.specs.Seen.{among, puts_of, given_values, or_first}
 use Rattle.rv_run.specs.Values.{register_cell, register_value, bytes_of}
-use Rattle.rv_run.specs.Effect.{Effect, effect, effect_at, cells, first, second, load_count, load_from}
+use Rattle.rv_run.specs.Effect.{Effect, next, effect, effect_at, cells, first, second, load_count, load_from, is_output}
+use Rattle.rv_run.specs.Prints.{is_short_write, asks, arguments, shown, task_effect, task_cells, task_output}
 use Rattle.rv_run.specs.Machine.{doing, fetching, word_at, moved, is_next, pc_after}
 
 pub no_pc : (cs : List Cell) → among cs Pc ≡ false
@@ -68,6 +70,11 @@ register_cells_below (r ∷ rs) x below e =
         (λ (e : false ≡ true). absurd (true≢false (sym e)))
         (or_cases (nat_eq r n) false h)
 
+arguments_below : (x : Cell) → among arguments x ≡ true → IsCell x
+arguments_below Pc h = tt
+arguments_below (Byte a) h = absurd (true≢false (sym h))
+arguments_below (Reg r) h = grind (arith, h, nat_tests)
+
 -- values that agree on the cells that the instruction reads
 module _ (v w : Cell → ℕ) where
   abbrev Agree : List Cell → Type 0
@@ -110,6 +117,57 @@ module _ (v w : Cell → ℕ) where
       let m : number (load_count i) from (bytes_of v) ≡ number (load_count i) (load_from i (first (sources i) w)) (bytes_of w) = n ∙ ap (λ x. number (load_count i) (load_from i x) (bytes_of w)) a in
       ((λ j. effect i pc (a j) (b j) (m j)), (λ j. regs ++ byte_cells (load_count i) (load_from i (a j))))
 
+  -- the same holds for a step of a task, and it prints the same
+  same_bytes : (k a : ℕ) → Agree (byte_cells k a) → bytes_from k a (bytes_of v) ≡ bytes_from k a (bytes_of w)
+  same_bytes zero a h = refl
+  same_bytes (suc k) a h =
+      let here : v (Byte (a % 2 ^ 32)) ≡ w (Byte (a % 2 ^ 32)) = h (Byte (a % 2 ^ 32)) (or_left (nat_eq (a % 2 ^ 32) (a % 2 ^ 32)) _ (eq-eqb (a % 2 ^ 32) (a % 2 ^ 32) refl)) in
+      let rest = same_bytes k (a + 1) (λ x e. h x (or_right (same_cell (Byte (a % 2 ^ 32)) x) (among (byte_cells k (a + 1)) x) e)) in
+      λ i. here i ∷ rest i
+
+  argument : (r : ℕ) → Agree (arguments ++ shown v) → among arguments (Reg r) ≡ true → v (Reg r) ≡ w (Reg r)
+  argument r h e = left_part arguments (shown v) h (Reg r) e
+
+  short_same : Agree (arguments ++ shown v) → is_short_write v ≡ is_short_write w
+  short_same h = λ i. (nat_eq (argument 17 h refl i) 64 && is_output (argument 10 h refl i)) && nat_le (argument 12 h refl i) 256
+
+  shown_same : Agree (arguments ++ shown v) → shown v ≡ shown w
+  shown_same h = λ i. cond (short_same h i) (byte_cells (argument 12 h refl i) (argument 11 h refl i)) []
+
+  printed_same : Agree (arguments ++ shown v) → (b : Bool) → is_short_write v ≡ b
+      → cond b (bytes_from (v (Reg 12)) (v (Reg 11)) (bytes_of v)) [] ≡ cond b (bytes_from (w (Reg 12)) (w (Reg 11)) (bytes_of w)) []
+  printed_same h false e = refl
+  printed_same h true e =
+      same_bytes (v (Reg 12)) (v (Reg 11)) (subst (λ b. Agree (cond b (byte_cells (v (Reg 12)) (v (Reg 11))) [])) e (right_part arguments (shown v) h))
+      ∙ (λ i. bytes_from (argument 12 h refl i) (argument 11 h refl i) (bytes_of w))
+
+  pub record IsSame (prints : ℕ → Bool) (i : Inst) (pc : ℕ) : Type 0 where
+    pub effect : task_effect prints i pc v ≡ task_effect prints i pc w
+    pub cells : task_cells prints i pc v ≡ task_cells prints i pc w
+    pub output : task_output prints i pc v ≡ task_output prints i pc w
+
+  pub same_task : (prints : ℕ → Bool) (i : Inst) (pc : ℕ) → Agree (task_cells prints i pc v) → IsSame prints i pc
+  same_task prints i pc h = by (asks prints i pc) refl
+    where
+      own : (effect_at i pc v ≡ effect_at i pc w) × (cells i v ≡ cells i w)
+      own = same_effect i pc (right_part (cond (asks prints i pc) (arguments ++ shown v) []) (cells i v) h)
+
+      by : (b : Bool) → asks prints i pc ≡ b → IsSame prints i pc
+      by false e = record {
+        effect = ap (λ b. cond (b && is_short_write v) (next pc ((Reg 10, v (Reg 12)) ∷ [])) (effect_at i pc v)) e ∙ own.0 ∙ ap (λ b. cond (b && is_short_write w) (next pc ((Reg 10, w (Reg 12)) ∷ [])) (effect_at i pc w)) (sym e);
+        cells = ap (λ b. cond b (arguments ++ shown v) [] ++ cells i v) e ∙ own.1 ∙ ap (λ b. cond b (arguments ++ shown w) [] ++ cells i w) (sym e);
+        output = ap (λ b. cond (b && is_short_write v) (bytes_from (v (Reg 12)) (v (Reg 11)) (bytes_of v)) []) e ∙ ap (λ b. cond (b && is_short_write w) (bytes_from (w (Reg 12)) (w (Reg 11)) (bytes_of w)) []) (sym e);
+      }
+      by true e =
+          let asked : Agree (arguments ++ shown v) = subst (λ b. Agree (cond b (arguments ++ shown v) [])) e (left_part (cond (asks prints i pc) (arguments ++ shown v) []) (cells i v) h) in
+          record {
+            effect = λ j. cond (asks prints i pc && short_same asked j) (next pc ((Reg 10, argument 12 asked refl j) ∷ [])) (own.0 j);
+            cells = λ j. cond (asks prints i pc) (arguments ++ shown_same asked j) [] ++ own.1 j;
+            output = ap (λ b. cond (b && is_short_write v) (bytes_from (v (Reg 12)) (v (Reg 11)) (bytes_of v)) []) e
+                ∙ printed_same asked (is_short_write v) refl
+                ∙ (λ j. cond (sym e j && short_same asked j) (bytes_from (w (Reg 12)) (w (Reg 11)) (bytes_of w)) []);
+          }
+
 put_same : (o : Option ℕ) (a b : ℕ) → is_some o ≡ true → unwrap_or o a ≡ unwrap_or o b
 put_same (Some v) a b e = refl
 put_same None a b e = absurd (cc)
@@ -119,15 +177,18 @@ put_none (Some v) a e = absurd (cc)
 put_none None a e = refl
 
 -- one instruction
-module _ (i : Inst) where
-  effects : (c s : Arch) → SameSeen (doing i) c s → effect_at i s.pc (value s) ≡ effect_at i c.pc (value c)
-  effects c s h = ap (λ p. effect_at i p (value s)) h.pc ∙ sym (same_effect (value c) (value s) i c.pc (λ x e. sym (h.each x e))).0
+module _ (prints : ℕ → Bool) (i : Inst) where
+  alike : (c s : Arch) → SameSeen (doing prints i) c s → IsSame (value c) (value s) prints i c.pc
+  alike c s h = same_task (value c) (value s) prints i c.pc (λ x e. sym (h.each x e))
 
-  pub doing_flow : (c s : Arch) → SameSeen (doing i) c s → (effect_at i s.pc (value s)).flow ≡ (effect_at i c.pc (value c)).flow
+  effects : (c s : Arch) → SameSeen (doing prints i) c s → task_effect prints i s.pc (value s) ≡ task_effect prints i c.pc (value c)
+  effects c s h = ap (λ p. task_effect prints i p (value s)) h.pc ∙ sym (alike c s h).effect
+
+  pub doing_flow : (c s : Arch) → SameSeen (doing prints i) c s → (task_effect prints i s.pc (value s)).flow ≡ (task_effect prints i c.pc (value c)).flow
   doing_flow c s h = ap (λ (e : Effect). e.flow) (effects c s h)
 
-  reads_same : (c s : Arch) → SameSeen (doing i) c s → cells i (value s) ≡ cells i (value c)
-  reads_same c s h = sym (same_effect (value c) (value s) i c.pc (λ x e. sym (h.each x e))).1
+  reads_same : (c s : Arch) → SameSeen (doing prints i) c s → task_cells prints i s.pc (value s) ≡ task_cells prints i c.pc (value c)
+  reads_same c s h = ap (λ p. task_cells prints i p (value s)) h.pc ∙ sym (alike c s h).cells
 
   moved_same : (e f : Effect) (c s : Arch) → e ≡ f → s.pc ≡ c.pc → (x : Cell) → is_some (puts_of f.puts x) ≡ true → value (moved e s) x ≡ value (moved f c) x
   unfolding moved given_values
@@ -145,24 +206,39 @@ module _ (i : Inst) where
   moved_stays e s (Reg n) np o = put_none (puts_of e.puts (Reg n)) (s.regs n) o
   moved_stays e s (Byte a) np o = put_none (puts_of e.puts (Byte a)) (s.mem a) o
 
-  within : AreBelow 32 (sources i) → (s : Arch) (x : Cell) → among (cells i (value s)) x ≡ true → IsCell x
-  within below s x e =
+  own_within : AreBelow 32 (sources i) → (s : Arch) (x : Cell) → among (cells i (value s)) x ≡ true → IsCell x
+  own_within below s x e =
       let regs = flat_map register_cell (sources i) in
       let bytes = byte_cells (load_count i) (load_from i (first (sources i) (value s))) in
       ⊎_elim (λ (h : among regs x ≡ true). register_cells_below (sources i) x below h) (λ (h : among bytes x ≡ true). byte_cells_below (load_count i) (load_from i (first (sources i) (value s))) x h)
       (or_cases (among regs x) (among bytes x) (sym (among_append regs bytes x) ∙ e))
 
-  pub doing_local : AreBelow 32 (sources i) → IsLocal (doing i)
+  within : AreBelow 32 (sources i) → (s : Arch) (x : Cell) → among (task_cells prints i s.pc (value s)) x ≡ true → IsCell x
+  within below s x e =
+      ⊎_elim (λ (h : among (cond (asks prints i s.pc) (arguments ++ shown (value s)) []) x ≡ true). asked (asks prints i s.pc) h) (λ (h : among (cells i (value s)) x ≡ true). own_within below s x h)
+      (or_cases (among (cond (asks prints i s.pc) (arguments ++ shown (value s)) []) x) (among (cells i (value s)) x) (sym (among_append (cond (asks prints i s.pc) (arguments ++ shown (value s)) []) (cells i (value s)) x) ∙ e))
+    where
+      bytes : (b : Bool) → among (cond b (byte_cells (s.regs 12) (s.regs 11)) []) x ≡ true → IsCell x
+      bytes true h = byte_cells_below (s.regs 12) (s.regs 11) x h
+      bytes false h = absurd (true≢false (sym h))
+
+      asked : (b : Bool) → among (cond b (arguments ++ shown (value s)) []) x ≡ true → IsCell x
+      asked false h = absurd (true≢false (sym h))
+      asked true h =
+          ⊎_elim (λ (h : among arguments x ≡ true). arguments_below x h) (λ (h : among (shown (value s)) x ≡ true). bytes (is_short_write (value s)) h)
+          (or_cases (among arguments x) (among (shown (value s)) x) (sym (among_append arguments (shown (value s)) x) ∙ h))
+
+  pub doing_local : AreBelow 32 (sources i) → IsLocal (doing prints i)
   doing_local below = record {
     stops = λ c s h. ap (λ (e : Effect). not (is_next e.flow)) (effects c s h);
     reads = λ c s h x. ap (λ cs. among cs x) (reads_same c s h);
     writes = λ c s h quiet x. ap (λ (e : Effect). is_some (puts_of e.puts x)) (effects c s h);
-    pc = λ c s h quiet. moved_pc (effect_at i s.pc (value s)) (effect_at i c.pc (value c)) c s (effects c s h) h.pc;
-    says = λ c s h quiet. refl;
-    put = λ c s h quiet x e. moved_same (effect_at i s.pc (value s)) (effect_at i c.pc (value c)) c s (effects c s h) h.pc x e;
-    stays = λ s quiet x np e. moved_stays (effect_at i s.pc (value s)) s x np e;
+    pc = λ c s h quiet. moved_pc (task_effect prints i s.pc (value s)) (task_effect prints i c.pc (value c)) c s (effects c s h) h.pc;
+    says = λ c s h quiet. ap (λ p. task_output prints i p (value s)) h.pc ∙ sym (alike c s h).output;
+    put = λ c s h quiet x e. moved_same (task_effect prints i s.pc (value s)) (task_effect prints i c.pc (value c)) c s (effects c s h) h.pc x e;
+    stays = λ s quiet x np e. moved_stays (task_effect prints i s.pc (value s)) s x np e;
     within = λ s x e. within below s x e;
-    no_pc = λ s. no_pc (cells i (value s));
+    no_pc = λ s. no_pc (task_cells prints i s.pc (value s));
   }
 
 -- the fetched word is among what is read

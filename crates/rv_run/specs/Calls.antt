@@ -1,18 +1,18 @@
 -- What calls and ends do to a state, and one step of a run. The numbers of calls are those of Linux for RISC-V; their
 -- effects are this project's.
-use Rattle.std.specs.Prelude.{ℕ, ◌+◌, ◌-◌, ◌^◌, min, Bool, false, ◌&&◌, ◌||◌, not, cond, nat_eq, nat_le, ◌==◌, if◌then◌else◌, ◌++◌, length, take, drop, Some}
+use Rattle.std.specs.Prelude.{◌≡◌, ℕ, ◌+◌, ◌-◌, ◌^◌, min, Bool, false, ◌&&◌, ◌||◌, not, cond, nat_eq, nat_le, ◌==◌, if◌then◌else◌, ◌++◌, length, take, drop, Some}
 use Rattle.cells.specs.declared.Cell.{Cell}
 use Rattle.cells.specs.declared.Cell.TheVariants.{Pc, Reg, Byte}
 use Rattle.cells.specs.declared.End.{End}
 use Rattle.cells.specs.declared.End.TheVariants.{Exit, Break as by_break, Illegal as by_illegal, Misfetch as by_misfetch}
 use Rattle.cells.specs.Cells.{Arch}
 use Rattle.cells.specs.Bytes.{byte_cells, bytes_from, after_puts}
-use Rattle.cells.specs.Run.{State, step_by}
+use Rattle.cells.specs.Run.{State, is_over, printed, step_by}
 use Rattle.cells.specs.Seen.{among}
 use Rattle.rv_run.specs.declared.Flow.{Flow}
 use Rattle.rv_run.specs.declared.Flow.TheVariants.{Next, Call, Break, Illegal, Misfetch}
-use Rattle.rv_run.specs.Effect.{after}
-use Rattle.rv_run.specs.Machine.{word_at, flow_of, machine}
+use Rattle.rv_run.specs.Effect.{after, is_output}
+use Rattle.rv_run.specs.Machine.{word_at, flow_of, machine_in, machine}
 
 -- the number -n in 32 bits
 abbrev pub minus : ℕ → ℕ
@@ -48,10 +48,6 @@ write_some s = record {
   arch = answered (write_count s) s.arch;
   env = record s.env { output = s.env.output ++ bytes_from (write_count s) (s.arch.regs 11) s.arch.mem };
 }
-
--- the descriptors 1 and 2 are one output
-abbrev pub is_output : ℕ → Bool
-is_output descriptor = (descriptor == 1) || (descriptor == 2)
 
 unfoldable pub write : State → State
 write s = if is_output (s.arch.regs 10) then write_some s else answers (minus 9) s
@@ -110,3 +106,13 @@ stop_puts s _ x = false
 -- the cells that the step of a state writes
 unfoldable pub writes : State → Cell → Bool
 writes s x = cond (machine.stops s.arch) (stop_puts s (flow_at s) x) (machine.writes s.arch x)
+
+-- what a task does is a step of the run, wherever it may print
+abbrev pub TaskStepsAreSteps : Type 0
+TaskStepsAreSteps =
+    (prints : ℕ → Bool) (s : State) → is_over s ≡ false → (machine_in prints).stops s.arch ≡ false
+    → step s ≡ record { arch = (machine_in prints).move s.arch; env = printed s.env ((machine_in prints).says s.arch) }
+
+abbrev pub TaskStepsWrite : Type 0
+TaskStepsWrite =
+    (prints : ℕ → Bool) (s : State) → (machine_in prints).stops s.arch ≡ false → (x : Cell) → writes s x ≡ (machine_in prints).writes s.arch x

@@ -1,6 +1,6 @@
 -- What an instruction does, by the values that it reads (RISC-V unprivileged manual, RV32I 2.1 and M 2.0). Nothing here
 -- sees a state.
-use Rattle.std.specs.Prelude.{ℕ, ℤ, ◌+◌, ◌*◌, ◌/◌, ◌%◌, ◌^◌, Bool, true, false, not, nat_lt, int_lt, nat_le, int_le, ◌==◌, List, [], ◌∷◌, ◌++◌, take}
+use Rattle.std.specs.Prelude.{ℕ, ℤ, ◌+◌, ◌*◌, ◌/◌, ◌%◌, ◌^◌, Bool, true, false, not, ◌||◌, nat_lt, int_lt, nat_le, int_le, ◌==◌, List, [], ◌∷◌, ◌++◌, take}
 use Rattle.std.specs.List.{flat_map}
 use Rattle.std.specs.Int.{w8, w16, w32, cast_signed, cast_unsigned, to_le_bytes}
 use Rattle.rv_word.specs.declared.inst.Test.{Test}
@@ -59,6 +59,10 @@ load_size Lbu = 1
 load_size Lh = 2
 load_size Lhu = 2
 load_size Lw = 4
+
+-- the descriptors 1 and 2 are one output
+abbrev pub is_output : ℕ → Bool
+is_output descriptor = (descriptor == 1) || (descriptor == 2)
 
 -- a loaded byte or half, extended to 32 bits
 abbrev pub extended : LoadKind → ℕ → ℕ

@@ -1,5 +1,6 @@
 pub mod Values
 pub mod Effect
+pub mod Prints
 pub mod Machine
 pub mod Calls
 pub mod Start

@@ -1,5 +1,5 @@
 -- The machine: what a word does to a state, and which cells it reads and writes.
-use Rattle.std.specs.Prelude.{ℕ, Bool, true, false, not, ◌||◌, is_some, []}
+use Rattle.std.specs.Prelude.{ℕ, Bool, true, false, not, ◌||◌, is_some}
 use Rattle.rv_word.specs.declared.inst.Inst.{Inst}
 use Rattle.rv_word.specs.Meaning.{meaning}
 use Rattle.cells.specs.Cells.{Arch, value, from_cells}
@@ -8,7 +8,8 @@ use Rattle.cells.specs.Machine.{Machine}
 use Rattle.cells.specs.Seen.{among, puts_of, given_values}
 use Rattle.rv_run.specs.declared.Flow.{Flow}
 use Rattle.rv_run.specs.declared.Flow.TheVariants.{Next}
-use Rattle.rv_run.specs.Effect.{Effect, effect_at, cells}
+use Rattle.rv_run.specs.Effect.{Effect, effect_at}
+use Rattle.rv_run.specs.Prints.{nowhere, task_effect, task_cells, task_output}
 
 abbrev pub is_next : Flow → Bool
 is_next (Next t) = true
@@ -27,19 +28,23 @@ moved e s = record (from_cells (given_values (puts_of e.puts) (value s))) { pc =
 abbrev pub flow_of : ℕ → Arch → Flow
 flow_of w s = (effect_at (meaning w) s.pc (value s)).flow
 
--- this instruction, done where the pc is
-abbrev pub doing : Inst → Machine
-doing i = record {
-  stops = λ s. not (is_next (effect_at i s.pc (value s)).flow);
-  move = λ s. moved (effect_at i s.pc (value s)) s;
-  says = λ s. [];
-  reads = λ s x. among (cells i (value s)) x;
-  writes = λ s x. is_some (puts_of (effect_at i s.pc (value s)).puts x);
+-- this instruction, done where the pc is. A task may print where the pc passes
+abbrev pub doing : (ℕ → Bool) → Inst → Machine
+doing prints i = record {
+  stops = λ s. not (is_next (task_effect prints i s.pc (value s)).flow);
+  move = λ s. moved (task_effect prints i s.pc (value s)) s;
+  says = λ s. task_output prints i s.pc (value s);
+  reads = λ s x. among (task_cells prints i s.pc (value s)) x;
+  writes = λ s x. is_some (puts_of (task_effect prints i s.pc (value s)).puts x);
 }
 
 -- this word, done where the pc is
+abbrev pub exec_in : (ℕ → Bool) → ℕ → Machine
+exec_in prints w = doing prints (meaning w)
+
+-- each call stops it
 abbrev pub exec : ℕ → Machine
-exec w = doing (meaning w)
+exec = exec_in nowhere
 
 -- the word at the pc
 abbrev pub word_at : Arch → ℕ
@@ -55,5 +60,10 @@ fetching does = record {
   writes = λ s x. (does (word_at s)).writes s x;
 }
 
+-- the machine of tasks that may print where the pc passes
+abbrev pub machine_in : (ℕ → Bool) → Machine
+machine_in prints = fetching (exec_in prints)
+
+-- each call stops it
 abbrev pub machine : Machine
-machine = fetching exec
+machine = machine_in nowhere

@@ -17,7 +17,7 @@ mod opcodes;
 mod ranges;
 mod tables;
 
-pub use constants::constant;
+pub use constants::{constant, constant_words_mean};
 pub use decoding::decode;
 pub use encoding::encode;
 pub use inst::{ImmOp, Inst, LoadKind, RegOp, StoreKind, Test};

@@ -1,12 +1,13 @@
 //! The calls of a program to its environment.
 ghost use Rattle.std.specs.Prelude.{◌≡◌, OnOk, OnErr, slice_index};
-ghost use Rattle.rv_run.specs.Calls.{is_output, break_after};
+ghost use Rattle.rv_run.specs.Calls.{break_after};
 
 use crate::advance::answer;
 use crate::bytes::bytes_from;
 use crate::machine::Machine;
 use cells::End;
 use memory::Memory;
+use rv_run::is_output;
 use std::alloc::{AllocError, Global};
 
 /// The most bytes that one read or write takes.
@@ -20,12 +21,6 @@ const NO_DESCRIPTOR: u32 = 0xffff_fff7;
 
 /// -38 as the answer of a call: no such call.
 const NO_CALL: u32 = 0xffff_ffda;
-
-fn is_output(descriptor: u32) -> bool
-    ensures { result ≡ is_output descriptor }
-{
-    descriptor == 1 || descriptor == 2
-}
 
 fn break_after(lowest: u32, wanted: u32, now: u32) -> u32
     ensures { result ≡ break_after lowest wanted now }

@@ -1,12 +1,16 @@
 -- The small image fits, and the ten steps of its run meet what it assumes.
-use Rattle.std.proofs.Common.{◌≡◌, ℕ, ◌+◌, ◌<◌, ◌≤◌, zero, suc, Bool, true, false, ◌||◌, cond, Option, Some, None, refl, sym, ap, subst, arith, inl, inr, ⊎_elim, ◌⊎◌, true≢false}
+use Rattle.std.proofs.Common.{◌≡◌, ℕ, ◌+◌, ◌<◌, ◌≤◌, zero, suc, Bool, true, false, ◌||◌, cond, Option, Some, None, refl, sym, ap, ◌∙◌, subst, arith, inl, inr, ⊎_elim, ◌⊎◌, true≢false}
 use Rattle.std.specs.Prelude.{nat_eq, is_some}
-use Rattle.std.proofs.lemmas.Bool.{eqb-true, or_cases}
+use Rattle.std.proofs.lemmas.Bool.{eqb-true, or_cases, and_parts, cond-true}
+use Rattle.cells.specs.declared.Cell.{Cell}
+use Rattle.cells.specs.declared.Cell.TheVariants.{Pc, Reg, Byte}
+use Rattle.cells.specs.Cells.{Arch}
+use Rattle.cells.specs.Run.{is_over}
 use Rattle.speculation.specs.World.{World, IsWorld, Spends, is_anchor}
 use Rattle.squash_laws.specs.Image.{Fork, IsWords}
-use Rattle.squash_laws.specs.Fits.{IsKept, IsPassed, Fits, IsSetting, Meets, arch_at, pc_at, arrived}
+use Rattle.squash_laws.specs.Fits.{DoesSame, IsKept, IsPassed, Fits, IsSetting, Meets, arch_at, pc_at, stale, arrived}
 use Rattle.squash_laws.proofs.Spending.{spends as image_spends}
-use Rattle.small_machine.specs.Small.{op_of, small_machine, small_image, small_words, small_world, small_start, small_setting}
+use Rattle.small_machine.specs.Small.{Op, Again, Known, op_of, loads, looks, doing, small_machine, small_image, small_words, small_world, small_start, small_setting}
 use Rattle.small_machine.proofs.Local.{doing_local, small_local}
 
 -- the pcs with a note are four
@@ -46,6 +50,9 @@ is_words =
       writes_mask = λ s r quiet. refl;
     }
 
+own : (op : Op) (s : Arch) → DoesSame (doing op) (doing op) s
+own op s = record { stops = refl; move = refl; reads = λ x r. r; writes = λ x. refl }
+
 abbrev One : ℕ → Type 0
 One p = IsKept (small_world 8 small_start) small_words small_image p ⊎ IsPassed (small_world 8 small_start) small_words small_image p
 
@@ -63,7 +70,7 @@ fits =
     }
   where
     count : One 0
-    count = inl (record { slot = refl; reads = λ r e. e; next = λ q r l h e. inl (e) })
+    count = inl (record { word = 0; slot = refl; does = λ s p code h. own (op_of 0) s; reads = λ s r p code e. e; next = λ q r l h e. inl (e) })
 
     show : One 4
     show =
@@ -76,11 +83,28 @@ fits =
           bytes = λ s a e code w. ap (λ p. nat_eq p 4) e;
         })
 
+    -- where byte 96 holds 3
     again : One 8
-    again = inl (record { slot = refl; reads = λ r e. e; next = λ q r l h e. inr (e) })
+    again = inl (record { word = 16; slot = refl; does = λ s p code h. known s (loaded s p h); reads = λ s r p code e. e; next = λ q r l h e. inr (e) })
+      where
+        loaded : (s : Arch) → s.pc ≡ 8 → small_image.holds s ≡ true → s.mem 96 ≡ 3
+        loaded s p h = eqb-true (s.mem 96) 3 (ap (λ p. cond (nat_eq p 8) (nat_eq (s.mem 96) 3) true) (sym p) ∙ h)
+
+        looked : (x : Cell) → looks Known x ≡ true → looks Again x ≡ true
+        looked Pc r = r
+        looked (Reg n) r = r
+        looked (Byte a) r = never r
+
+        known : (s : Arch) → s.mem 96 ≡ 3 → DoesSame (doing Known) (doing Again) s
+        known s three = record {
+          stops = refl;
+          move = λ i. record { pc = cond (nat_eq (s.regs 1) (sym three i)) 12 0; regs = s.regs; mem = s.mem };
+          reads = looked;
+          writes = λ x. refl;
+        }
 
     leave : One 12
-    leave = inl (record { slot = refl; reads = λ r e. e; next = λ q r l h e. never l })
+    leave = inl (record { word = 12; slot = refl; does = λ s p code h. own (op_of 12) s; reads = λ s r p code e. e; next = λ q r l h e. never l })
 
 -- the ten positions, one by one
 below_ten : (P : ℕ → Type 0) → P 0 → P 1 → P 2 → P 3 → P 4 → P 5 → P 6 → P 7 → P 8 → P 9 → (i : ℕ) → i < 10 → P i
@@ -123,7 +147,10 @@ meets =
       follows = λ i l going noted quiet.
           below_ten (λ i. small_machine.stops (arch_at w i) ≡ false → small_image.leads (pc_at w i) (pc_at w (suc i)) ≡ true)
           (λ q. refl) (λ q. refl) (λ q. refl) (λ q. refl) (λ q. refl) (λ q. refl) (λ q. refl) (λ q. refl) (λ q. refl) (λ q. absurd (true≢false q)) i l quiet;
-      fresh = λ i a l going reads. never reads;
+      fresh = λ i a l going reads.
+          subst (λ a. stale small_setting i a ≡ false) (eqb-true 96 a (and_parts (loads (op_of (pc_at w i))) (nat_eq 96 a) reads).1)
+          (below_ten (λ i. stale small_setting i 96 ≡ false) refl refl refl refl refl refl refl refl refl refl i l);
+      holds = λ i l going. below_ten (λ i. small_image.holds (arch_at w i) ≡ true) refl refl refl refl refl refl refl refl refl refl i l;
       span = λ i c l going anchor none. none (spans i c l anchor);
     }
 
@@ -141,6 +168,8 @@ pub is_known : IsWorld (small_world 8 small_start)
 is_known =
     record {
       local = small_local;
+      moves = λ s going quiet. rw (going, quiet) refl;
+      over = λ s over. cond-true (is_over s) s _ over;
       slaves = omega arith;
       limit = omega arith;
       counts = count_is_one;

@@ -1,23 +1,24 @@
 -- A small machine, its program and an image of it: they meet all that the laws ask for.
-use Rattle.std.specs.Prelude.{ℕ, ◌+◌, ◌||◌, Bool, true, false, cond, List, [], ◌∷◌, Some, None, nat_eq, slice_get}
+use Rattle.std.specs.Prelude.{ℕ, ◌+◌, ◌||◌, ◌&&◌, Bool, true, false, cond, List, [], ◌∷◌, Some, None, nat_eq, slice_get}
 use Rattle.cells.specs.declared.Cell.{Cell}
-use Rattle.cells.specs.declared.Cell.TheVariants.{Reg, Byte}
+use Rattle.cells.specs.declared.Cell.TheVariants.{Pc, Reg, Byte}
 use Rattle.cells.specs.declared.End.TheVariants.{Exit}
 use Rattle.cells.specs.Cells.{Arch, same_cell}
 use Rattle.cells.specs.Machine.{Machine}
-use Rattle.cells.specs.Run.{State}
+use Rattle.cells.specs.Run.{State, step_by}
 use Rattle.speculation.specs.declared.Why.TheVariants.{Call}
 use Rattle.speculation.specs.World.{World, Stays}
 use Rattle.squash_laws.specs.Image.{Exec, Fork, Image, Words, begin_at, drive_of}
 use Rattle.squash_laws.specs.Fits.{Setting}
 
--- register 1 rises by one; it is stored at byte 100 and printed; back to 0, and on at 12 once it is 3; a call. Each reads it
+-- register 1 rises by one; it is stored at byte 100 and printed; back to 0, and on at 12 once it is what byte 96 holds; the
+-- same once it is 3; a call. Each reads it
 pub data Op : Type 0 where
-  Count Show Again Leave : Op
+  Count Show Again Known Leave : Op
 
--- the word at a pc is the pc itself
+-- the word at a pc is the pc itself. Known stands at none: the image has it in the place of Again
 abbrev pub op_of : ℕ → Op
-op_of word = cond (nat_eq word 0) Count (cond (nat_eq word 4) Show (cond (nat_eq word 8) Again Leave))
+op_of word = cond (nat_eq word 0) Count (cond (nat_eq word 4) Show (cond (nat_eq word 8) Again (cond (nat_eq word 16) Known Leave)))
 
 abbrev pub leaves : Op → Bool
 leaves Leave = true
@@ -26,15 +27,22 @@ leaves _ = false
 abbrev pub after : Op → Arch → Arch
 after Count s = record { pc = s.pc + 4; regs = λ r. cond (nat_eq 1 r) (s.regs 1 + 1) (s.regs r); mem = s.mem }
 after Show s = record { pc = s.pc + 4; regs = s.regs; mem = λ a. cond (nat_eq 100 a) (s.regs 1) (s.mem a) }
-after Again s = record { pc = cond (nat_eq (s.regs 1) 3) 12 0; regs = s.regs; mem = s.mem }
+after Again s = record { pc = cond (nat_eq (s.regs 1) (s.mem 96)) 12 0; regs = s.regs; mem = s.mem }
+after Known s = record { pc = cond (nat_eq (s.regs 1) 3) 12 0; regs = s.regs; mem = s.mem }
 after Leave s = s
 
 abbrev pub shown : Op → Arch → List ℕ
 shown Show s = s.regs 1 ∷ []
 shown _ s = []
 
+abbrev pub loads : Op → Bool
+loads Again = true
+loads _ = false
+
 abbrev pub looks : Op → Cell → Bool
-looks op x = same_cell (Reg 1) x
+looks op Pc = false
+looks op (Reg r) = nat_eq 1 r
+looks op (Byte a) = loads op && nat_eq 96 a
 
 abbrev pub sets : Op → Cell → Bool
 sets Count x = same_cell (Reg 1) x
@@ -61,21 +69,23 @@ leave s = record s { env = record s.env { over = Some (Exit (s.arch.regs 1)) } }
 abbrev pub small_start : State
 small_start =
     record {
-      arch = record { pc = 0; regs = λ r. 0; mem = λ a. 0 };
+      arch = record { pc = 0; regs = λ r. 0; mem = λ a. cond (nat_eq 96 a) 3 0 };
       env = record { input = []; taken = 0; output = []; first_break = 0; brk = 0; over = None };
     }
 
--- Count is done in a slot of its own after the Fork, Show is passed over, Again and Leave are done
+-- Count is done in a slot of its own after the Fork, Show is passed over, Known is done in the place of Again, and Leave is
+-- done. The list says that Again loads 3
 abbrev pub small_image : Image
 small_image =
     record {
-      slots = slice_get (Fork 0 ∷ Exec 0 0 ∷ Exec 8 8 ∷ Exec 12 12 ∷ []);
+      slots = slice_get (Fork 0 ∷ Exec 0 0 ∷ Exec 8 16 ∷ Exec 12 12 ∷ []);
       has = λ pc. nat_eq pc 0 || nat_eq pc 4 || nat_eq pc 8 || nat_eq pc 12;
       slot_of = λ pc. cond (nat_eq pc 0) 0 (cond (nat_eq pc 12) 3 2);
       live = λ pc r. nat_eq 1 r;
       need = λ pc r. nat_eq 1 r;
       leads = λ p q. cond (nat_eq p 0) (nat_eq q 4) (cond (nat_eq p 4) (nat_eq q 8) (cond (nat_eq p 8) (nat_eq q 0 || nat_eq q 12) false));
       dead = λ s. nat_eq s.pc 4;
+      holds = λ s. cond (nat_eq s.pc 8) (nat_eq (s.mem 96) 3) true;
     }
 
 abbrev pub small_words : Words
@@ -94,7 +104,7 @@ abbrev pub masterless : ℕ → State → World
 masterless limit start =
     record {
       machine = small_machine;
-      call = leave;
+      step = step_by small_machine leave;
       anchor = λ pc. cond (nat_eq pc 0) (Some 1) None;
       limit = limit;
       slaves = 2;

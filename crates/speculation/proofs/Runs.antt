@@ -14,7 +14,7 @@ use Rattle.cells.proofs.Law.{jump, same_said, quiet_too, Matches-less}
 use Rattle.cells.proofs.Differs.{cell_is_place, differ_first}
 use Rattle.speculation.specs.declared.Ending.{Ending}
 use Rattle.speculation.specs.declared.Ending.TheVariants.{Reached, Met, Full}
-use Rattle.speculation.specs.World.{World, IsWorld, step, seq, is_anchor, arrivals}
+use Rattle.speculation.specs.World.{World, IsWorld, seq, is_anchor, arrivals}
 use Rattle.speculation.specs.Task.{Task, now, ended_by, advance, looked, differ_at, IsTask, EndFits}
 
 -- recorded cells are cells
@@ -44,22 +44,19 @@ first_told recorded found d e = subst (IsFirstDiffer recorded found) e (differ_f
 module _ (w : World) where
   pub steps : State → ℕ → State
   steps s zero = s
-  steps s (suc k) = step w (steps s k)
+  steps s (suc k) = w.step (steps s k)
 
   pub seq-steps : (p k : ℕ) → seq w (p + k) ≡ steps (seq w p) k
   unfolding steps
   seq-steps p zero = ap (seq w) (add-zero p)
-  seq-steps p (suc k) = ap (seq w) (add-suc p k) ∙ ap (step w) (seq-steps p k)
+  seq-steps p (suc k) = ap (seq w) (add-suc p k) ∙ ap w.step (seq-steps p k)
 
-  pub step_quiet : (s : State) → is_over s ≡ false → w.machine.stops s.arch ≡ false → step w s ≡ record { arch = w.machine.move s.arch; env = printed s.env (w.machine.says s.arch) }
-  step_quiet s over stops = rw (over, stops) refl
-
-  pub steps-moves : (s : State) (k : ℕ) → is_over s ≡ false → IsQuiet w.machine s.arch k → steps s k ≡ record { arch = moves w.machine s.arch k; env = printed s.env (said w.machine s.arch k) }
+  pub steps-moves : IsWorld w → (s : State) (k : ℕ) → is_over s ≡ false → IsQuiet w.machine s.arch k → steps s k ≡ record { arch = moves w.machine s.arch k; env = printed s.env (said w.machine s.arch k) }
   unfolding steps
-  steps-moves s zero over quiet = λ i. record { arch = s.arch; env = record s.env { output = sym (append-nil s.env.output) i } }
-  steps-moves s (suc k) over quiet =
-      ap (step w) (steps-moves s k over (λ i l. quiet i (omega arith)))
-      ∙ step_quiet (record { arch = moves w.machine s.arch k; env = printed s.env (said w.machine s.arch k) }) over (quiet k (omega arith))
+  steps-moves known s zero over quiet = λ i. record { arch = s.arch; env = record s.env { output = sym (append-nil s.env.output) i } }
+  steps-moves known s (suc k) over quiet =
+      ap w.step (steps-moves known s k over (λ i l. quiet i (omega arith)))
+      ∙ known.moves (record { arch = moves w.machine s.arch k; env = printed s.env (said w.machine s.arch k) }) over (quiet k (omega arith))
       ∙ (λ i. record { arch = moves w.machine s.arch (suc k); env = record s.env { output = append_assoc s.env.output (said w.machine s.arch k) (w.machine.says (moves w.machine s.arch k)) i } })
 
 module _ (w : World) (known : IsWorld w) where
@@ -80,7 +77,7 @@ module _ (w : World) (known : IsWorld w) where
       let h = task_matches t s none in
       ap (λ a. record { arch = a; env = printed s.env (said w.machine t.base t.steps) }) (jump w.machine known.local t.base s.arch t.steps is_task.quiet h)
       ∙ ap (λ bytes. record { arch = moves w.machine s.arch t.steps; env = printed s.env bytes }) (sym (same_said w.machine known.local t.base s.arch t.steps is_task.quiet h))
-      ∙ sym (steps-moves w s t.steps over (quiet_too w.machine known.local t.base s.arch t.steps is_task.quiet h))
+      ∙ sym (steps-moves w known s t.steps over (quiet_too w.machine known.local t.base s.arch t.steps is_task.quiet h))
       ∙ ap (λ z. steps w z t.steps) is
       ∙ sym (seq-steps w p t.steps)
 

@@ -1,16 +1,26 @@
 -- When an image fits a program, and when a run meets what the image assumes.
 use Rattle.std.specs.Prelude.{◌≡◌, ℕ, ◌+◌, ◌<◌, ◌≤◌, zero, suc, Bool, true, false, cond, Some, ◌⊎◌}
 use Rattle.cells.specs.declared.Cell.{Cell}
-use Rattle.cells.specs.declared.Cell.TheVariants.{Byte}
+use Rattle.cells.specs.declared.Cell.TheVariants.{Reg, Byte}
 use Rattle.cells.specs.Cells.{Arch}
+use Rattle.cells.specs.Machine.{Machine}
 use Rattle.cells.specs.Run.{State, is_over, count_after}
 use Rattle.speculation.specs.World.{World, IsWorld, Master, seq, is_anchor}
 use Rattle.squash_laws.specs.Image.{Image, Words, IsWords, Exec, Go, Fork, body, begin_at, drive_of}
 
--- a note whose own slot does its word
+-- in a state one machine does what another does, and reads no cell that the other doesn't read
+pub record DoesSame (a b : Machine) (s : Arch) : Type 0 where
+  pub stops : a.stops s ≡ b.stops s
+  pub move : a.move s ≡ b.move s
+  pub reads : (x : Cell) → a.reads s x ≡ true → b.reads s x ≡ true
+  pub writes : (x : Cell) → a.writes s x ≡ b.writes s x
+
+-- a note whose own slot does its word, or a word that does the same where the step loads what the list says
 pub record IsKept (w : World) (ws : Words) (im : Image) (p : ℕ) : Type 0 where
-  pub slot : im.slots (body w im p) ≡ Some (Exec p (ws.program p))
-  pub reads : (r : ℕ) → ws.reads p (ws.program p) r ≡ true → im.need p r ≡ true
+  pub word : ℕ
+  pub slot : im.slots (body w im p) ≡ Some (Exec p word)
+  pub does : (s : Arch) → s.pc ≡ p → ws.word s ≡ ws.program p → im.holds s ≡ true → DoesSame (ws.exec word) (ws.exec (ws.program p)) s
+  pub reads : (s : Arch) (r : ℕ) → s.pc ≡ p → ws.word s ≡ ws.program p → (ws.exec word).reads s (Reg r) ≡ true → im.need p r ≡ true
   pub next : (q r : ℕ) → im.leads p q ≡ true → im.has q ≡ true → im.need q r ≡ true → (ws.writes p (ws.program p) r ≡ true) ⊎ (im.need p r ≡ true)
 
 -- a note that the master passes over, to go on at `on`
@@ -55,7 +65,7 @@ abbrev pub arrived : World → ℕ → ℕ → ℕ
 arrived w o d = count_after (λ k. is_anchor w (pc_at w k)) o d
 
 -- `code`: the word is the program's. `within` and `follows`: the next pc has a note, and is one that the list leaves.
--- `fresh`: no byte that is read is stale. `span`: from an anchor a task comes to its last arrival, or to a call or an end
+-- `fresh`: no byte that is read is stale. `holds`: what is loaded is what the list says. `span`: from an anchor a task comes to its last arrival, or to a call or an end
 pub record Meets (s : Setting) : Type 0 where
   pub code : (i : ℕ) → i < s.reach → is_over (seq s.world i) ≡ false → s.image.has (pc_at s.world i) ≡ true
       → s.words.word (arch_at s.world i) ≡ s.words.program (pc_at s.world i)
@@ -65,6 +75,7 @@ pub record Meets (s : Setting) : Type 0 where
       → s.world.machine.stops (arch_at s.world i) ≡ false → s.image.leads (pc_at s.world i) (pc_at s.world (suc i)) ≡ true
   pub fresh : (i a : ℕ) → i < s.reach → is_over (seq s.world i) ≡ false → s.world.machine.reads (arch_at s.world i) (Byte a) ≡ true
       → stale s i a ≡ false
+  pub holds : (i : ℕ) → i < s.reach → is_over (seq s.world i) ≡ false → s.image.holds (arch_at s.world i) ≡ true
   pub span : (i c : ℕ) → i < s.reach → is_over (seq s.world i) ≡ false → s.world.anchor (pc_at s.world i) ≡ Some c
       → (((t : ℕ) × (t ≤ s.world.limit) × (c ≤ arrived s.world i t)) ⊎ ((t : ℕ) × (t < s.world.limit) × (s.world.machine.stops (arch_at s.world (i + t)) ≡ true)) → ⊥)
       → ⊥

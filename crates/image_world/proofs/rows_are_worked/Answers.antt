@@ -21,3 +21,29 @@ returns-clause-circle c = refl
 pub returns-clause-lost : goal.returns-clause-lost
 unfolding Rattle.speculation.specs.Engine.happens Rattle.image_world.specs.World.drive Rattle.image_world.specs.World.begin Rattle.rv_run.specs.Machine.moved Rattle.cells.specs.Seen.given_values
 returns-clause-lost c = refl
+
+pub returns-clause-prints : goal.returns-clause-prints
+unfolding Rattle.speculation.specs.Engine.happens Rattle.image_world.specs.World.drive Rattle.image_world.specs.World.begin Rattle.rv_run.specs.Machine.moved Rattle.cells.specs.Seen.given_values
+returns-clause-prints c = refl
+
+pub returns-clause-said : goal.returns-clause-said
+unfolding Rattle.rv_run.specs.Machine.moved Rattle.cells.specs.Seen.given_values
+returns-clause-said c = refl
+
+pub returns-clause-master : goal.returns-clause-master
+unfolding Rattle.speculation.specs.Engine.happens Rattle.image_world.specs.World.drive Rattle.image_world.specs.World.begin Rattle.rv_run.specs.Machine.moved Rattle.cells.specs.Seen.given_values
+returns-clause-master c = record { short = refl; long = refl; unlisted = refl }
+
+pub returns-clause-recorded : goal.returns-clause-recorded
+unfolding Rattle.rv_run.specs.Machine.moved Rattle.cells.specs.Seen.given_values
+returns-clause-recorded c = record {
+  first = refl;
+  last = refl;
+  behind = refl;
+  around = refl;
+  registers = refl;
+  long_byte = refl;
+  long_register = refl;
+  unlisted = refl;
+  own = refl;
+}

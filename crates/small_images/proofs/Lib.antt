@@ -1,0 +1,4 @@
+pub mod Cases
+pub mod CaseExit
+pub mod CasePrints
+pub mod CaseLoad
