@@ -1,8 +1,11 @@
 pub mod Search
-pub mod Loop
-pub mod Words
-pub mod Counted
-pub mod Entries
+mod Loop
+mod Words
+mod Counted
+mod Entries
+mod Pcs
+mod Premises
+mod Headers
+mod Tables
+mod Whole
 pub mod Rising
-pub mod Premises
-pub mod Whole

@@ -1,5 +1,5 @@
 -- What an image holds, which images are valid, and what is found in them at a program counter.
-use Rattle.std.specs.Prelude.{◌≡◌, ℕ, ◌+◌, ◌*◌, ◌%◌, ◌^◌, ◌<◌, ◌≤◌, ◌==◌, Bool, if◌then◌else◌, List, [], ◌∷◌, length, map, find, Option, Some, None, All}
+use Rattle.std.specs.Prelude.{◌≡◌, ℕ, ◌+◌, ◌*◌, ◌%◌, ◌^◌, ◌<◌, ◌≤◌, ◌==◌, Bool, if◌then◌else◌, List, [], ◌∷◌, length, map, find, Option, Some, None, is_some, All, ◌⊎◌}
 use Rattle.std.specs.List.{sum_by}
 use Rattle.std.specs.List.Sorted.{IsStrictlyIncreasing}
 use Rattle.std.specs.Option.{option_map}
@@ -19,6 +19,7 @@ pub data Premise : Type 0 where
   Code : Premise
   Within : Premise
   Span : Premise
+  Same : (at : ℕ) (value : ℕ) → Premise
 
 -- what an assumption says
 abbrev pub premise : Assumption → Premise
@@ -28,14 +29,17 @@ premise (assumption.Dead at) = Dead at
 premise assumption.Code = Code
 premise assumption.Within = Within
 premise assumption.Span = Span
+premise (assumption.Same at value) = Same at value
 
--- an image, with its tables as lists
+-- an image, with its tables as lists. `writes` are the pcs of the calls at which a task may print
 pub record Distilled : Type 0 where
+  pub version : ℕ
   pub limit : ℕ
   pub slots : List Slot
   pub anchors : List Anchor
   pub notes : List Note
   pub assumptions : List Premise
+  pub writes : List ℕ
 
 -- a set of registers as a word with a bit for each, and none for register 0
 abbrev pub IsMask : ℕ → Type 0
@@ -63,12 +67,14 @@ kind_of (Dead at) = 2
 kind_of Code = 3
 kind_of Within = 4
 kind_of Span = 5
+kind_of (Same at value) = 6
 
 -- the program counter that an assumption speaks of, or 0 where it speaks of none
 abbrev pub place_of : Premise → ℕ
 place_of (Cut at taken) = at
 place_of (Targets at to) = at
 place_of (Dead at) = at
+place_of (Same at value) = at
 place_of _ = 0
 
 -- the targets that an assumption lists
@@ -80,16 +86,36 @@ targets_of _ = []
 abbrev pub key_of : Premise → ℕ
 key_of p = 2 ^ 32 * kind_of p + place_of p
 
+-- the value that a load is taken to load, or 0 where an assumption speaks of no load
+abbrev pub loads_of : Premise → ℕ
+loads_of (Same at value) = value
+loads_of _ = 0
+
 abbrev pub IsPremise : Premise → Type 0
-IsPremise p = IsPc (place_of p) × All IsPc (targets_of p) × IsStrictlyIncreasing (targets_of p)
+IsPremise p = IsPc (place_of p) × (loads_of p < 2 ^ 32) × All IsPc (targets_of p) × IsStrictlyIncreasing (targets_of p)
 
 -- how many targets are listed in all
 abbrev pub target_count : List Premise → ℕ
 target_count ps = sum_by (λ p. length (targets_of p)) ps
 
--- A valid image: the task limit, the greatest numbers of entries, the range of each entry, and the order of each table.
+-- an assumption that the first version knows
+abbrev pub IsKnownAtFirst : Premise → Type 0
+IsKnownAtFirst (Same at value) = ⊥
+IsKnownAtFirst _ = Unit {0}
+
+-- the longest task of a version
+abbrev pub most_steps : ℕ → ℕ
+most_steps version = if version == 1 then 16_384 else 4_096
+
+-- the first version knows no call that a task does, and no load of one value
+abbrev pub IsPlain : Distilled → Type 0
+IsPlain image = (image.writes ≡ []) × All IsKnownAtFirst image.assumptions
+
+-- A valid image: the version and the task limit, the greatest numbers of entries, the range of each entry, and the order of each table.
 pub record IsImage (image : Distilled) : Type 0 where
-  pub limit : (16 ≤ image.limit) × (image.limit ≤ 16_384)
+  pub version : (image.version ≡ 1) ⊎ (image.version ≡ 2)
+  pub plain : image.version ≡ 1 → IsPlain image
+  pub limit : (16 ≤ image.limit) × (image.limit ≤ most_steps image.version)
   pub few_slots : length image.slots ≤ 1_048_576
   pub few_anchors : length image.anchors ≤ 524_288
   pub few_notes : length image.notes ≤ 524_288
@@ -102,6 +128,9 @@ pub record IsImage (image : Distilled) : Type 0 where
   pub notes_rise : IsStrictlyIncreasing (map (λ (n : Note). n.pc) image.notes)
   pub assumptions : All IsPremise image.assumptions
   pub assumptions_rise : IsStrictlyIncreasing (map key_of image.assumptions)
+  pub few_writes : length image.writes ≤ 524_288
+  pub writes : All IsPc image.writes
+  pub writes_rise : IsStrictlyIncreasing image.writes
 
 -- the note at a program counter, if there is one
 abbrev pub note_at : Distilled → ℕ → Option Note
@@ -120,6 +149,10 @@ anchor_from i (a ∷ more) pc = if a.pc == pc then Some i else anchor_from (i + 
 abbrev pub anchor_at : Distilled → ℕ → Option ℕ
 anchor_at image pc = anchor_from 0 image.anchors pc
 
+-- whether a task may print at a program counter
+abbrev pub prints_at : Distilled → ℕ → Bool
+prints_at image pc = is_some (find (λ w. w == pc) image.writes)
+
 -- the image of a run that nothing is known of
 abbrev pub nothing_known : Distilled
-nothing_known = record { limit = 16; slots = []; anchors = []; notes = []; assumptions = [] }
+nothing_known = record { version = 1; limit = 16; slots = []; anchors = []; notes = []; assumptions = []; writes = [] }

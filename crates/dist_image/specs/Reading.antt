@@ -1,6 +1,7 @@
 -- Reading an image from the front of its bytes to their end, with the first test that fails.
-use Rattle.std.specs.Prelude.{◌≡◌, ℕ, zero, suc, ◌+◌, ◌*◌, ◌%◌, ◌^◌, ◌==◌, nat_lt, nat_le, not, ◌&&◌, Bool, if◌then◌else◌, ◌⊎◌, List, [], ◌∷◌, length, take, drop, Option, Some, None, Result, Ok, Err}
+use Rattle.std.specs.Prelude.{◌≡◌, ℕ, zero, suc, ◌+◌, ◌*◌, ◌%◌, ◌^◌, ◌==◌, nat_lt, nat_le, not, ◌&&◌, ◌||◌, Bool, if◌then◌else◌, ◌⊎◌, List, [], ◌∷◌, length, take, drop, Option, Some, None, Result, Ok, Err}
 use Rattle.std.specs.Int.{w32, from_le_bytes}
+use Rattle.dist_image.specs.declared.error.Table.{Table}
 use Rattle.dist_image.specs.declared.error.Table.TheVariants as table
 use Rattle.dist_image.specs.declared.error.ImageErr.{ImageErr}
 use Rattle.dist_image.specs.declared.error.ImageErr.TheVariants.{Short, Magic, Version, Limit, TooMany, Kind, Range, Order, Long, Memory}
@@ -10,7 +11,7 @@ use Rattle.dist_image.specs.declared.image.Anchor.{Anchor}
 use Rattle.dist_image.specs.declared.image.Note.{Note}
 use Rattle.dist_image.specs.declared.header.Header.{Header}
 use Rattle.dist_image.specs.declared.entry.Head.{Head}
-use Rattle.dist_image.specs.Image.{Premise, Cut, Targets, Dead, Code, Within, Span, Distilled, key_of, targets_of}
+use Rattle.dist_image.specs.Image.{Premise, Cut, Targets, Dead, Code, Within, Span, Same, Distilled, key_of, targets_of, most_steps}
 
 -- one step and then another, unless the first fails
 infixl 10 ◌>>=◌
@@ -40,29 +41,46 @@ is_aligned a = a % 4 == 0
 
 -- ---- the header
 
--- the tests of the header, in their order
-abbrev pub admit_header : ℕ → ℕ → Header → Result Header ImageErr
-admit_header magic version h =
+-- the tests of the magic number and the version
+abbrev pub admit_version : ℕ → ℕ → Result ℕ ImageErr
+admit_version magic version =
     if not (magic == 0x5053_534D) then Err Magic
-    else if not (version == 1) then Err Version
-    else if not (nat_le 16 h.limit && nat_le h.limit 16_384) then Err Limit
+    else if not (version == 1 || version == 2) then Err Version
+    else Ok version
+
+unfoldable pub next_version : List ℕ → Result (ℕ × List ℕ) ImageErr
+next_version bytes = do
+  magic ← next_word bytes
+  version ← next_word magic.1
+  known ← admit_version magic.0 version.0
+  Ok (known, version.1)
+
+-- the number of writes: the first version has none, and does not count them
+abbrev pub next_write_count : ℕ → List ℕ → Result (ℕ × List ℕ) ImageErr
+next_write_count version bytes = if version == 1 then Ok (0, bytes) else next_word bytes
+
+-- the tests of what follows, in their order
+abbrev pub admit_header : Header → Result Header ImageErr
+admit_header h =
+    if not (nat_le 16 h.limit && nat_le h.limit (most_steps h.version)) then Err Limit
     else if nat_lt 1_048_576 h.slots then Err (TooMany table.Slots)
     else if nat_lt 524_288 h.anchors then Err (TooMany table.Anchors)
     else if nat_lt 524_288 h.notes then Err (TooMany table.Notes)
     else if nat_lt 1_048_576 h.assumptions then Err (TooMany table.Assumptions)
+    else if nat_lt 524_288 h.writes then Err (TooMany table.Writes)
     else Ok h
 
 unfoldable pub next_header : List ℕ → Result (Header × List ℕ) ImageErr
 next_header bytes = if nat_lt (length bytes) 28 then Err Short else do
-  magic ← next_word bytes
-  version ← next_word magic.1
+  version ← next_version bytes
   limit ← next_word version.1
   slots ← next_word limit.1
   anchors ← next_word slots.1
   notes ← next_word anchors.1
   assumptions ← next_word notes.1
-  header ← admit_header magic.0 version.0 (record { limit = limit.0; slots = slots.0; anchors = anchors.0; notes = notes.0; assumptions = assumptions.0 })
-  Ok (header, assumptions.1)
+  writes ← next_write_count version.0 assumptions.1
+  header ← admit_header (record { version = version.0; limit = limit.0; slots = slots.0; anchors = anchors.0; notes = notes.0; assumptions = assumptions.0; writes = writes.0 })
+  Ok (header, writes.1)
 
 -- ---- slots
 
@@ -127,50 +145,53 @@ next_note slots i due bytes = do
   n ← admit_note slots i due (record { pc = pc.0; slot = slot.0; live = live.0; need = need.0 })
   Ok (n, need.1)
 
+-- ---- pcs that rise: the targets of an assumption, and the writes
+
+-- the tests of a pc, beside the table and the number of an entry
+abbrev pub admit_pc : Table → ℕ → ℕ → ℕ → Result ℕ ImageErr
+admit_pc among i due pc =
+    if not (is_aligned pc) then Err (Range among i)
+    else if nat_lt pc due then Err (Order among i)
+    else Ok pc
+
+unfoldable pub next_pc : Table → ℕ → ℕ → List ℕ → Result (ℕ × List ℕ) ImageErr
+next_pc among i due bytes = do
+  word ← next_word bytes
+  pc ← admit_pc among i due word.0
+  Ok (pc, word.1)
+
+-- The targets of assumption i. All of them have its number.
+abbrev pub targets_in : ℕ → ℕ → List ℕ → Result (List ℕ × List ℕ) ImageErr
+targets_in i count bytes = entries {S = ℕ} (λ _ due rest. next_pc table.Targets i due rest) (λ _ pc. pc + 1) count 0 0 bytes
+
 -- ---- assumptions
 
--- the tests of a target of assumption i
-abbrev pub admit_target : ℕ → ℕ → ℕ → Result ℕ ImageErr
-admit_target i due to =
-    if not (is_aligned to) then Err (Range table.Targets i)
-    else if nat_lt to due then Err (Order table.Targets i)
-    else Ok to
-
-unfoldable pub next_target : ℕ → ℕ → List ℕ → Result (ℕ × List ℕ) ImageErr
-next_target i due bytes = do
-  word ← next_word bytes
-  to ← admit_target i due word.0
-  Ok (to, word.1)
-
--- the targets of assumption i
-abbrev pub targets_in : ℕ → ℕ → List ℕ → Result (List ℕ × List ℕ) ImageErr
-targets_in i count bytes = entries {S = ℕ} (λ _ due rest. next_target i due rest) (λ _ to. to + 1) count 0 0 bytes
-
--- whether the kind of an assumption is known, and its other numbers have a meaning for it
-abbrev pub has_form : Head → Bool
-has_form h =
+-- whether the version knows the kind of an assumption, and the other numbers have a meaning for it
+abbrev pub has_form : ℕ → Head → Bool
+has_form version h =
     if h.kind == 0 then nat_le h.value 1 && h.targets == 0
     else if h.kind == 1 then h.value == 0
     else if h.kind == 2 then h.value == 0 && h.targets == 0
+    else if h.kind == 6 then not (version == 1) && h.targets == 0
     else nat_le h.kind 5 && h.at == 0 && h.value == 0 && h.targets == 0
 
 -- The tests of assumption i up to its targets: the key that is due, the number of targets before it, and the number of bytes after these four numbers play a part.
-abbrev pub admit_head : ℕ → ℕ → ℕ → ℕ → Head → Result Head ImageErr
-admit_head i due before left h =
-    if not (has_form h) then Err (Kind table.Assumptions i)
+abbrev pub admit_head : ℕ → ℕ → ℕ → ℕ → ℕ → Head → Result Head ImageErr
+admit_head version i due before left h =
+    if not (has_form version h) then Err (Kind table.Assumptions i)
     else if not (is_aligned h.at) then Err (Range table.Assumptions i)
     else if nat_lt (2 ^ 32 * h.kind + h.at) due then Err (Order table.Assumptions i)
     else if nat_lt 1_048_576 (before + h.targets) then Err (TooMany table.Targets)
     else if nat_lt left (4 * h.targets) then Err Short
     else Ok h
 
-unfoldable pub next_head : ℕ → ℕ → ℕ → List ℕ → Result (Head × List ℕ) ImageErr
-next_head i due before bytes = do
+unfoldable pub next_head : ℕ → ℕ → ℕ → ℕ → List ℕ → Result (Head × List ℕ) ImageErr
+next_head version i due before bytes = do
   kind ← next_word bytes
   at ← next_word kind.1
   value ← next_word at.1
   targets ← next_word value.1
-  h ← admit_head i due before (length targets.1) (record { kind = kind.0; at = at.0; value = value.0; targets = targets.0 })
+  h ← admit_head version i due before (length targets.1) (record { kind = kind.0; at = at.0; value = value.0; targets = targets.0 })
   Ok (h, targets.1)
 
 -- the assumption that these numbers and targets are
@@ -181,12 +202,13 @@ premise_from h to =
     else if h.kind == 2 then Dead h.at
     else if h.kind == 3 then Code
     else if h.kind == 4 then Within
-    else Span
+    else if h.kind == 5 then Span
+    else Same h.at h.value
 
 -- seen are the key that is due, and the number of targets so far
-unfoldable pub next_premise : ℕ → ℕ × ℕ → List ℕ → Result (Premise × List ℕ) ImageErr
-next_premise i seen bytes = do
-  h ← next_head i seen.0 seen.1 bytes
+unfoldable pub next_premise : ℕ → ℕ → ℕ × ℕ → List ℕ → Result (Premise × List ℕ) ImageErr
+next_premise version i seen bytes = do
+  h ← next_head version i seen.0 seen.1 bytes
   to ← targets_in i h.0.targets h.1
   Ok (premise_from h.0 to.0, to.1)
 
@@ -204,8 +226,11 @@ anchors_in slots count bytes = entries {S = ℕ} (next_anchor slots) (λ _ a. a.
 abbrev pub notes_in : ℕ → ℕ → List ℕ → Result (List Note × List ℕ) ImageErr
 notes_in slots count bytes = entries {S = ℕ} (next_note slots) (λ _ n. n.pc + 1) count 0 0 bytes
 
-abbrev pub premises_in : ℕ → List ℕ → Result (List Premise × List ℕ) ImageErr
-premises_in count bytes = entries next_premise see_premise count 0 (0, 0) bytes
+abbrev pub premises_in : ℕ → ℕ → List ℕ → Result (List Premise × List ℕ) ImageErr
+premises_in version count bytes = entries (next_premise version) see_premise count 0 (0, 0) bytes
+
+abbrev pub writes_in : ℕ → List ℕ → Result (List ℕ × List ℕ) ImageErr
+writes_in count bytes = entries {S = ℕ} (next_pc table.Writes) (λ _ pc. pc + 1) count 0 0 bytes
 
 -- all of the bytes
 unfoldable pub image_from : List ℕ → Result Distilled ImageErr
@@ -214,5 +239,6 @@ image_from bytes = do
   slots ← slots_in h.0.anchors h.0.slots h.1
   anchors ← anchors_in h.0.slots h.0.anchors slots.1
   notes ← notes_in h.0.slots h.0.notes anchors.1
-  assumptions ← premises_in h.0.assumptions notes.1
-  if length assumptions.1 == 0 then Ok (record { limit = h.0.limit; slots = slots.0; anchors = anchors.0; notes = notes.0; assumptions = assumptions.0 }) else Err Long
+  assumptions ← premises_in h.0.version h.0.assumptions notes.1
+  writes ← writes_in h.0.writes assumptions.1
+  if length writes.1 == 0 then Ok (record { version = h.0.version; limit = h.0.limit; slots = slots.0; anchors = anchors.0; notes = notes.0; assumptions = assumptions.0; writes = writes.0 }) else Err Long

@@ -9,7 +9,7 @@ ghost use Rattle.dist_image.specs.Reading.{Gives};
 ghost use Rattle.dist_image.specs.Reading as spec;
 
 use crate::error::{ImageErr, Table};
-use crate::header::{MOST, next_word};
+use crate::header::{FIRST_VERSION, MOST, next_word};
 use crate::image::{Anchor, Assumption, Note, Slot};
 use std::alloc::Global;
 
@@ -161,10 +161,12 @@ fn admit_note(slots: u32, number: u32, due: u64, note: Note) -> Result<Note, Ima
     Ok(note)
 }
 
-/// Reads an assumption, whose key is at least `due`. `before` targets were listed before it.
+/// Reads an assumption in an image of this version. Its key is at least `due`, and `before` targets were
+/// listed before it.
 #[tactic(auto, unfolding(crate::specs::Reading::next_premise))]
 pub(crate) fn next_assumption(
     alloc: Global,
+    version: u32,
     number: u32,
     due: u64,
     before: usize,
@@ -172,18 +174,24 @@ pub(crate) fn next_assumption(
 ) -> Result<(Assumption, &[u8]), ImageErr>
     requires { before ≤ 1_048_576 }
     ensures { Gives (λ x. (premise x.0, x.1.now)) result
-        (spec.next_premise number (due, before) bytes.now) }
+        (spec.next_premise version number (due, before) bytes.now) }
 {
-    let (head, rest) = next_head(number, due, before, bytes)?;
+    let (head, rest) = next_head(version, number, due, before, bytes)?;
     let (to, rest) = targets_in(alloc, number, head.targets, rest)?;
     Ok((assumption_from(head, to), rest))
 }
 
 /// Reads what stands before the targets of an assumption.
 #[tactic(auto, unfolding(crate::specs::Reading::next_head))]
-fn next_head(number: u32, due: u64, before: usize, bytes: &[u8]) -> Result<(Head, &[u8]), ImageErr>
+fn next_head(
+    version: u32,
+    number: u32,
+    due: u64,
+    before: usize,
+    bytes: &[u8],
+) -> Result<(Head, &[u8]), ImageErr>
     requires { before ≤ 1_048_576 }
-    ensures { Gives (λ x. (x.0, x.1.now)) result (spec.next_head number due before bytes.now) }
+    ensures { Gives (λ x. (x.0, x.1.now)) result (spec.next_head version number due before bytes.now) }
 {
     let (kind, rest) = next_word(bytes)?;
     let (at, rest) = next_word(rest)?;
@@ -195,12 +203,13 @@ fn next_head(number: u32, due: u64, before: usize, bytes: &[u8]) -> Result<(Head
         value,
         targets,
     };
-    let head = admit_head(number, due, before, rest.len(), head)?;
+    let head = admit_head(version, number, due, before, rest.len(), head)?;
     Ok((head, rest))
 }
 
 /// Tests what stands before the targets of an assumption. `left` bytes come after it.
 fn admit_head(
+    version: u32,
     number: u32,
     due: u64,
     before: usize,
@@ -208,9 +217,9 @@ fn admit_head(
     head: Head,
 ) -> Result<Head, ImageErr>
     requires { before ≤ 1_048_576 }
-    ensures { Gives (λ x. x) result (spec.admit_head number due before left head) }
+    ensures { Gives (λ x. x) result (spec.admit_head version number due before left head) }
 {
-    if !has_form(head) {
+    if !has_form(version, head) {
         return Err(ImageErr::Kind(Table::Assumptions, number));
     }
     if !is_aligned(head.at) {
@@ -228,14 +237,15 @@ fn admit_head(
     Ok(head)
 }
 
-/// Whether the kind is known, and the other numbers have a meaning for it.
-fn has_form(head: Head) -> bool
-    ensures { result ≡ spec.has_form head }
+/// Whether the version knows the kind, and the other numbers have a meaning for it.
+fn has_form(version: u32, head: Head) -> bool
+    ensures { result ≡ spec.has_form version head }
 {
     match head.kind {
         0 => head.value <= 1 && head.targets == 0,
         1 => head.value == 0,
         2 => head.value == 0 && head.targets == 0,
+        6 => version != FIRST_VERSION && head.targets == 0,
         kind => kind <= 5 && head.at == 0 && head.value == 0 && head.targets == 0,
     }
 }
@@ -261,7 +271,11 @@ fn assumption_from(head: Head, to: Vec<u32>) -> Assumption
         2 => Assumption::Dead { at },
         3 => Assumption::Code,
         4 => Assumption::Within,
-        _ => Assumption::Span,
+        5 => Assumption::Span,
+        _ => Assumption::Same {
+            at,
+            value: head.value,
+        },
     }
 }
 
@@ -278,7 +292,7 @@ fn targets_in(
     let mut rest = bytes;
     let mut due = 0;
     for _ in 0..count {
-        let (target, after) = next_target(number, due, rest)?;
+        let (target, after) = next_pc(Table::Targets, number, due, rest)?;
         targets.push(target)?;
         due = u64::from(target) + 1;
         rest = after;
@@ -286,27 +300,33 @@ fn targets_in(
     Ok((targets, rest))
 }
 
-/// Reads a target of the assumption of this number, which is at least `due`.
-#[tactic(auto, unfolding(crate::specs::Reading::next_target))]
-fn next_target(number: u32, due: u64, bytes: &[u8]) -> Result<(u32, &[u8]), ImageErr>
-    ensures { Gives (λ x. (x.0, x.1.now)) result (spec.next_target number due bytes.now) }
+/// Reads an address of an instruction, which is at least `due`. What is refused is the entry of this
+/// number among those of a table.
+#[tactic(auto, unfolding(crate::specs::Reading::next_pc))]
+pub(crate) fn next_pc(
+    among: Table,
+    number: u32,
+    due: u64,
+    bytes: &[u8],
+) -> Result<(u32, &[u8]), ImageErr>
+    ensures { Gives (λ x. (x.0, x.1.now)) result (spec.next_pc among number due bytes.now) }
 {
-    let (target, rest) = next_word(bytes)?;
-    let target = admit_target(number, due, target)?;
-    Ok((target, rest))
+    let (pc, rest) = next_word(bytes)?;
+    let pc = admit_pc(among, number, due, pc)?;
+    Ok((pc, rest))
 }
 
-/// Tests a target.
-fn admit_target(number: u32, due: u64, target: u32) -> Result<u32, ImageErr>
-    ensures { Gives (λ x. x) result (spec.admit_target number due target) }
+/// Tests an address of an instruction.
+fn admit_pc(among: Table, number: u32, due: u64, pc: u32) -> Result<u32, ImageErr>
+    ensures { Gives (λ x. x) result (spec.admit_pc among number due pc) }
 {
-    if !is_aligned(target) {
-        return Err(ImageErr::Range(Table::Targets, number));
+    if !is_aligned(pc) {
+        return Err(ImageErr::Range(among, number));
     }
-    if u64::from(target) < due {
-        return Err(ImageErr::Order(Table::Targets, number));
+    if u64::from(pc) < due {
+        return Err(ImageErr::Order(among, number));
     }
-    Ok(target)
+    Ok(pc)
 }
 
 impl Assumption {
@@ -321,6 +341,7 @@ impl Assumption {
             Assumption::Code => key(3, 0),
             Assumption::Within => key(4, 0),
             Assumption::Span => key(5, 0),
+            Assumption::Same { at, .. } => key(6, *at),
         }
     }
 

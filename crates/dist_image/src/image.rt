@@ -56,12 +56,18 @@ pub enum Assumption {
     Within,
     /// The run comes from anchor to anchor within the task limit.
     Span,
+    /// The load at `at` always loads `value`, extended to 32 bits.
+    Same { at: u32, value: u32 },
 }
 
-/// An image: a task limit and four tables. It need not fit any program.
+/// An image: a version, a task limit and five tables. It need not fit any program.
+///
+/// An image of version 1 has no writes, and no assumption about what a load loads.
 #[derive(Debug, Drop)]
 pub struct Image {
-    /// The most steps of a task, from 16 to 16,384.
+    /// The version of the format, 1 or 2.
+    pub version: u32,
+    /// The most steps of a task: from 16 to 16,384, in version 2 to 4,096.
     pub limit: u32,
     /// At most 1,048,576 slots.
     pub slots: Vec<Slot>,
@@ -72,6 +78,8 @@ pub struct Image {
     /// At most 1,048,576 assumptions, with as many targets in all. They are ordered by their kinds, as
     /// [`Assumption`] lists them, and those of a kind by rising addresses.
     pub assumptions: Vec<Assumption>,
+    /// At most 524,288 addresses, which rise: at a call that stands at one of them a task may print.
+    pub writes: Vec<u32>,
 }
 
 impl Model for Image {
@@ -81,23 +89,27 @@ impl Model for Image {
     ghost Value = { Distilled };
 
     ghost view = { λ image. record {
+      version = image.version;
       limit = image.limit;
       slots = image.slots.items;
       anchors = image.anchors.items;
       notes = image.notes.items;
       assumptions = map premise image.assumptions.items;
+      writes = image.writes.items;
     } };
 }
 
-/// The image that knows nothing: limit 16, and no entries. Takes no memory.
+/// The image that knows nothing: version 1, limit 16, and no entries. Takes no memory.
 pub fn empty_image(alloc: Global) -> Image
     ensures { result ≡ nothing_known }
 {
     Image {
+        version: 1,
         limit: 16,
         slots: Vec::new(alloc),
         anchors: Vec::new(alloc),
         notes: Vec::new(alloc),
         assumptions: Vec::new(alloc),
+        writes: Vec::new(alloc),
     }
 }

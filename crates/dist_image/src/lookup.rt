@@ -32,3 +32,16 @@ pub fn anchor_at(i: &Image, pc: u32) -> Option<u32>
         Err(_) => None,
     }
 }
+
+/// Whether a task may print at an address: whether it is one of the writes.
+///
+/// Takes no memory, and looks at no more writes than the logarithm of their number.
+pub fn prints_at(i: &Image, pc: u32) -> bool
+    requires { IsImage i.now }
+    ensures { result ≡ spec.prints_at i.now pc }
+{
+    match i.writes.binary_search_by_key(&pc, |at| *at) {
+        Ok(_) => true,
+        Err(_) => false,
+    }
+}

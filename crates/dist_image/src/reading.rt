@@ -3,10 +3,10 @@
 ghost use Rattle.std.specs.Prelude.{◌≡◌, ◌≢◌, IfOk, IfErr, MatchResult, map, Ok, Err};
 ghost use Rattle.dist_image.specs.Image.{Distilled, IsImage, premise};
 ghost use Rattle.dist_image.specs.Bytes.{bytes_of};
-ghost use Rattle.dist_image.specs.Reading.{Gives, slots_in, anchors_in, notes_in, premises_in, image_from};
+ghost use Rattle.dist_image.specs.Reading.{Gives, slots_in, anchors_in, notes_in, premises_in, writes_in, image_from};
 
-use crate::entry::{next_anchor, next_assumption, next_note, next_slot};
-use crate::error::ImageErr;
+use crate::entry::{next_anchor, next_assumption, next_note, next_pc, next_slot};
+use crate::error::{ImageErr, Table};
 use crate::header::next_header;
 use crate::image::{Anchor, Assumption, Image, Note, Slot};
 use std::alloc::Global;
@@ -40,16 +40,19 @@ fn image_in(alloc: Global, bytes: &[u8]) -> Result<Image, ImageErr>
     let (slots, rest) = read_slots(alloc, header.anchors, header.slots, rest)?;
     let (anchors, rest) = read_anchors(alloc, header.slots, header.anchors, rest)?;
     let (notes, rest) = read_notes(alloc, header.slots, header.notes, rest)?;
-    let (assumptions, rest) = read_assumptions(alloc, header.assumptions, rest)?;
+    let (assumptions, rest) = read_assumptions(alloc, header.version, header.assumptions, rest)?;
+    let (writes, rest) = read_writes(alloc, header.writes, rest)?;
     if !rest.is_empty() {
         return Err(ImageErr::Long);
     }
     Ok(Image {
+        version: header.version,
         limit: header.limit,
         slots,
         anchors,
         notes,
         assumptions,
+        writes,
     })
 }
 
@@ -113,21 +116,37 @@ fn read_notes(
 
 fn read_assumptions(
     alloc: Global,
+    version: u32,
     count: u32,
     bytes: &[u8],
 ) -> Result<(Vec<Assumption>, &[u8]), ImageErr>
-    ensures { Gives (λ x. (map premise x.0.items, x.1.now)) result (premises_in count bytes.now) }
+    ensures { Gives (λ x. (map premise x.0.items, x.1.now)) result (premises_in version count bytes.now) }
 {
     let mut assumptions = Vec::new(alloc);
     let mut rest = bytes;
     let mut due = 0;
     let mut targets = 0;
     for number in 0..count {
-        let (assumption, after) = next_assumption(alloc, number, due, targets, rest)?;
+        let (assumption, after) = next_assumption(alloc, version, number, due, targets, rest)?;
         due = assumption.key() + 1;
         targets += assumption.targets().len();
         assumptions.push(assumption)?;
         rest = after;
     }
     Ok((assumptions, rest))
+}
+
+fn read_writes(alloc: Global, count: u32, bytes: &[u8]) -> Result<(Vec<u32>, &[u8]), ImageErr>
+    ensures { Gives (λ x. (x.0.items, x.1.now)) result (writes_in count bytes.now) }
+{
+    let mut writes = Vec::new(alloc);
+    let mut rest = bytes;
+    let mut due = 0;
+    for number in 0..count {
+        let (pc, after) = next_pc(Table::Writes, number, due, rest)?;
+        writes.push(pc)?;
+        due = u64::from(pc) + 1;
+        rest = after;
+    }
+    Ok((writes, rest))
 }

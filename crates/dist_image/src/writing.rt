@@ -2,8 +2,9 @@
 
 ghost use Rattle.std.specs.Prelude.{◌≡◌, ◌<◌, ◌^◌, ◌++◌, length, map, IfOk, OnOk};
 ghost use Rattle.dist_image.specs.Image.{IsImage, premise, targets_of, target_count};
-ghost use Rattle.dist_image.specs.Bytes.{words, slot_words, anchor_words, note_words, premise_words, table_bytes, bytes_of};
+ghost use Rattle.dist_image.specs.Bytes.{words, header_words, slot_words, anchor_words, note_words, premise_words, table_bytes, bytes_of};
 
+use crate::header::FIRST_VERSION;
 use crate::image::{Anchor, Assumption, Image, Note, Slot};
 use std::alloc::{AllocError, Global};
 
@@ -17,11 +18,25 @@ pub fn write_image(alloc: Global, i: &Image) -> Result<Vec<u8>, AllocError>
     ensures { IfOk result (λ bytes. bytes.items ≡ bytes_of i.now) }
 {
     let mut out = Vec::new(alloc);
+    put_header(&mut out, i)?;
+    put_slots(&mut out, &i.slots)?;
+    put_anchors(&mut out, &i.anchors)?;
+    put_notes(&mut out, &i.notes)?;
+    put_assumptions(&mut out, &i.assumptions)?;
+    put_words(&mut out, &i.writes)?;
+    Ok(out)
+}
+
+/// Puts the header. Only from the second version on it counts the writes.
+fn put_header(out: &mut Vec<u8>, i: &Image) -> Result<(), AllocError>
+    requires { IsImage i.now }
+    ensures { OnOk result (out.new.items ≡ out.old.items ++ words (header_words i.now)) }
+{
     put_words(
-        &mut out,
+        out,
         &[
             u32::from_le_bytes(*b"MSSP"),
-            1,
+            i.version,
             i.limit,
             i.slots.len() as u32,
             i.anchors.len() as u32,
@@ -29,11 +44,10 @@ pub fn write_image(alloc: Global, i: &Image) -> Result<Vec<u8>, AllocError>
             i.assumptions.len() as u32,
         ],
     )?;
-    put_slots(&mut out, &i.slots)?;
-    put_anchors(&mut out, &i.anchors)?;
-    put_notes(&mut out, &i.notes)?;
-    put_assumptions(&mut out, &i.assumptions)?;
-    Ok(out)
+    if i.version != FIRST_VERSION {
+        put_words(out, &[i.writes.len() as u32])?;
+    }
+    Ok(())
 }
 
 /// Puts numbers at the end, the lowest byte of each first.
@@ -109,5 +123,6 @@ fn put_assumption(out: &mut Vec<u8>, assumption: &Assumption) -> Result<(), Allo
         Assumption::Code => put_words(out, &[3, 0, 0, 0]),
         Assumption::Within => put_words(out, &[4, 0, 0, 0]),
         Assumption::Span => put_words(out, &[5, 0, 0, 0]),
+        Assumption::Same { at, value } => put_words(out, &[6, *at, *value, 0]),
     }
 }

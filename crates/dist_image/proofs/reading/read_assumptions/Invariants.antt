@@ -7,6 +7,6 @@ use Rattle.dist_image.proofs.reading.read_assumptions.Given as goal
 
 abbrev pub invariant-loop-number : goal.invariant-loop-number
 invariant-loop-number l = record {
-  read : with_front (map premise l.assumptions.items) (entries next_premise see_premise (l.count - l.number) l.number (l.due, l.targets) l.rest) ≡ premises_in l.count l.bytes;
+  read : with_front (map premise l.assumptions.items) (entries (next_premise l.version) see_premise (l.count - l.number) l.number (l.due, l.targets) l.rest) ≡ premises_in l.version l.count l.bytes;
   few : l.targets ≤ 1_048_576;
 }
