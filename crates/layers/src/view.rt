@@ -1,59 +1,56 @@
-//! A view that records what it reads and keeps what is put, over a checkpoint that stays.
-ghost use Rattle.std.specs.Prelude.{◌≡◌, ℕ, ◌<◌, ◌+◌, ◌*◌, ◌^◌, OnOk, OnErr, IfOk, IfSome, IfNone, None, true, false, unwrap_or, slice_index, ◌||◌, nat_eq};
-ghost use Rattle.layers.specs.Marks.{has};
+//! A task's view: what it reads and puts over its checkpoint, and what it prints.
+ghost use Rattle.std.specs.Prelude.{◌≡◌, ℕ, ◌≤◌, ◌<◌, ◌+◌, ◌%◌, ◌++◌, List, [], ◌∷◌, OnOk, OnErr, IsOk, IfOk, IfNone, true, false, vec_len, vec_capacity};
 ghost use Rattle.cells.specs.declared.Cell.{Cell};
-ghost use Rattle.cells.specs.Differ.{differ, differs, first_where, is_other};
-ghost use Rattle.rv_run.specs.Values.{plain_value};
-ghost use Rattle.layers.specs.Layered.{seen_of, begun, laid, put_reg};
+ghost use Rattle.cells.specs.declared.Cell.TheVariants.{Reg};
+ghost use Rattle.cells.specs.Bytes.{byte_cells, bytes_from, number};
+ghost use Rattle.cells.specs.Differ.{differ, differs};
+ghost use Rattle.cells.specs.Seen.{read_cells};
+ghost use Rattle.rv_run.specs.Values.{plain_value, bytes_of};
+ghost use Rattle.rv_run.specs.Prints.{is_short_write, arguments};
+ghost use Rattle.rv_step.specs.Outcome.{step_outcome};
+ghost use Rattle.layers.specs.Layered.{seen_of, output_of, HasRoom, begun, laid, after_write, written_bytes};
 
-use crate::line::Four;
-use crate::lines::Lines;
-use crate::record::Record;
-use cells::{Cell, Differ};
+use crate::overlay::Overlay;
+use cells::Differ;
+use rv_run::Flow;
 use rv_step::{Arch, Memory, View};
 use std::alloc::{AllocError, Global};
 
 /// A recording view over a checkpoint: a pc, registers and a memory, which stay as they were.
 ///
 /// It shows the checkpoint with what was put since. Its record is Pc with the checkpoint's pc, and
-/// each cell that was read before it was put, with the value that it had there.
+/// each cell that was read before it was put, with the value that it had there. What the task has
+/// printed is kept beside it, and stays in every call but [`print`](TaskView::print).
 ///
-/// Registers and bytes are marked by masks, those of bytes in lines of 64. What is recorded is read
-/// off the checkpoint. Only [`ready`](View::ready) needs memory: it makes room for the lines that one
-/// step may touch.
+/// Only making room needs memory: [`ready`](View::ready) makes what one step may take, and
+/// [`ready_call`](TaskView::ready_call) what a step may take that prints.
 #[derive(Drop)]
 pub struct TaskView<M: Memory> {
-    start: u32,
-    regs: [u32; 32],
-    mem: M,
-    read_regs: u32,
-    put_regs: u32,
-    set: [u32; 32],
-    kept: Record,
+    cells: Overlay<M>,
+    output: Vec<u8>,
 }
 
 impl<M: Memory> TaskView<M> {
-    /// A view of this checkpoint, with only its pc recorded and nothing put.
+    /// A view of this checkpoint, with only its pc recorded, nothing put and nothing printed.
     ///
     /// # Errors
     ///
     /// Want of memory.
     pub fn begin(alloc: Global, pc: u32, regs: [u32; 32], mem: M) -> Result<TaskView<M>, AllocError>
-        ensures { IfOk result (λ view. seen_of M.at view ≡ begun (plain_value pc regs (M.at mem))) }
+        ensures seen { IfOk result (λ view. seen_of M.at view ≡ begun (plain_value pc regs (M.at mem))) }
+        ensures output { IfOk result (λ view. output_of view ≡ []) }
     {
         Ok(TaskView {
-            start: pc,
-            regs,
-            mem,
-            read_regs: 0,
-            put_regs: 0,
-            set: [0; 32],
-            kept: Record {
-                lines: Lines::new(alloc),
-                reads: 0,
-                writes: 0,
-            },
+            cells: Overlay::begin(alloc, pc, regs, mem),
+            output: Vec::new(alloc),
         })
+    }
+
+    /// What was printed. Takes no memory.
+    pub fn output(&self) -> &[u8]
+        ensures { result.now ≡ output_of self.now }
+    {
+        &self.output
     }
 
     /// The first recorded cell for which the state holds another value, with both values.
@@ -64,71 +61,145 @@ impl<M: Memory> TaskView<M> {
         ensures first { result ≡ differ (seen_of M.at self.now).recorded (plain_value a.now.pc a.now.regs (M.at a.now.mem)) }
         ensures none { IfNone result ((x : Cell) → differs (seen_of M.at self.now).recorded (plain_value a.now.pc a.now.regs (M.at a.now.mem)) x ≡ false) }
     {
-        if self.start != a.pc {
-            return Some(Differ {
-                cell: Cell::Pc,
-                predicted: self.start,
-                found: a.pc,
-            });
-        }
-        if let Some(r) = first_register(self.read_regs, &self.regs, &a.regs) {
-            return Some(Differ {
-                cell: Cell::Reg(r),
-                predicted: self.regs[r as usize],
-                found: a.regs[r as usize],
-            });
-        }
-        match self.kept.lines.first_other(&self.mem, &a.mem) {
-            Some(at) => Some(Differ {
-                cell: Cell::Byte(at),
-                predicted: u32::from(self.mem.get(at)),
-                found: u32::from(a.mem.get(at)),
-            }),
-            None => None,
-        }
+        self.cells.compare(a)
     }
 
-    /// Gives the state this pc, and what was put in this view. All else in the state stays.
+    /// Gives the state this pc, and what was put in this view, and appends what was printed to the
+    /// output. All else in the state stays.
     ///
     /// # Errors
     ///
-    /// Want of memory. The state is then as it was.
-    pub fn apply(&self, alloc: Global, pc: u32, a: &mut Arch<M>) -> Result<(), AllocError>
-        ensures ok { OnOk result (plain_value a.new.pc a.new.regs (M.at a.new.mem) ≡ laid pc (seen_of M.at self.now) (plain_value a.old.pc a.old.regs (M.at a.old.mem))) }
-        ensures err { OnErr result (plain_value a.new.pc a.new.regs (M.at a.new.mem) ≡ plain_value a.old.pc a.old.regs (M.at a.old.mem)) }
+    /// Want of memory. The state and the output are then as they were.
+    pub fn apply(
+        &self,
+        alloc: Global,
+        pc: u32,
+        a: &mut Arch<M>,
+        out: &mut Vec<u8>,
+    ) -> Result<(), AllocError>
+        ensures state { OnOk result (plain_value a.new.pc a.new.regs (M.at a.new.mem) ≡ laid pc (seen_of M.at self.now) (plain_value a.old.pc a.old.regs (M.at a.old.mem))) }
+        ensures output { OnOk result (out.new.items ≡ out.old.items ++ output_of self.now) }
+        ensures err_state { OnErr result (plain_value a.new.pc a.new.regs (M.at a.new.mem) ≡ plain_value a.old.pc a.old.regs (M.at a.old.mem)) }
+        ensures err_output { OnErr result (out.new.items ≡ out.old.items) }
     {
-        let mut mem = a.mem.snapshot(alloc)?;
-        self.kept.lines.put_into(alloc, &mut mem)?;
-        a.mem = mem;
-        a.pc = pc;
-        lay_registers(self.put_regs, &self.set, &mut a.regs);
+        out.reserve(self.output.len())?;
+        self.cells.apply(alloc, pc, a)?;
+        match out.extend_from_slice(&self.output) {
+            Ok(()) => {}
+            Err(_) => {}
+        }
         Ok(())
     }
 }
 
-// The first register that is marked and has another value in the second array.
-fn first_register(marks: u32, base: &[u32; 32], regs: &[u32; 32]) -> Option<u8>
-    ensures first { result ≡ first_where (λ n. is_other (put_reg marks (slice_index base.now) n) (slice_index regs.now n)) 32 }
-    ensures within { IfSome result (λ r. r < 32) }
-    ensures recorded { IfSome result (λ r. has marks r ≡ true) }
-    ensures none { IfNone result ((n : ℕ) → is_other (put_reg marks (slice_index base.now) n) (slice_index regs.now n) ≡ false) }
-{
-    for i in 0..32 {
-        if has_register(marks, i as u8) && base[i] != regs[i] {
-            return Some(i as u8);
+/// Steps, which leave the output, and the call that adds to it.
+impl<M: Memory> TaskView<M> {
+    /// Fetches the word at `pc`, a multiple of 4, and does its instruction, as [`rv_step::step`] says.
+    #[inline(always)]
+    pub fn step(&mut self, alloc: Global, pc: u32) -> Result<Flow, AllocError>
+        requires aligned { pc % 4 ≡ 0 }
+        requires room { HasRoom self.old 10 5 0 }
+        ensures sure { IsOk result }
+        ensures ok { IfOk result (λ flow. record { flow = flow; seen = seen_of M.at self.new } ≡ step_outcome pc (seen_of M.at self.old)) }
+        ensures output { output_of self.new ≡ output_of self.old }
+    {
+        rv_step::step(alloc, &mut self.cells, pc)
+    }
+
+    /// Makes room for a step that may be a short write: four bytes that are fetched, four registers and 256 bytes that are shown.
+    ///
+    /// # Errors
+    ///
+    /// Want of memory. The view is then as it was.
+    #[inline(always)]
+    pub fn ready_call(&mut self) -> Result<(), AllocError>
+        ensures ok { OnOk result (HasRoom self.new 264 5 256) }
+        ensures seen { seen_of M.at self.new ≡ seen_of M.at self.old }
+        ensures output { output_of self.new ≡ output_of self.old }
+    {
+        self.make_room(264, 5, 256)
+    }
+
+    // Makes room for so many bytes that are read, put and printed.
+    #[inline(always)]
+    fn make_room(&mut self, reads: u32, writes: u32, bytes: usize) -> Result<(), AllocError>
+        ensures sure { HasRoom self.old reads writes bytes → IsOk result }
+        ensures ok { OnOk result (HasRoom self.new reads writes bytes) }
+        ensures seen { seen_of M.at self.new ≡ seen_of M.at self.old }
+        ensures output { output_of self.new ≡ output_of self.old }
+    {
+        self.cells.make_room(reads, writes)?;
+        self.output.reserve(bytes)
+    }
+
+    /// The registers by which a call goes, x10, x11, x12 and x17, which are recorded.
+    ///
+    /// # Errors
+    ///
+    /// None: each register has a mark, so that this takes no memory.
+    pub fn call_args(&mut self) -> Result<[u32; 4], AllocError>
+        ensures sure { IsOk result }
+        ensures value { IfOk result (λ args. args ≡ (seen_of M.at self.old).value (Reg 10) ∷ (seen_of M.at self.old).value (Reg 11) ∷ (seen_of M.at self.old).value (Reg 12) ∷ (seen_of M.at self.old).value (Reg 17) ∷ []) }
+        ensures seen { seen_of M.at self.new ≡ read_cells arguments (seen_of M.at self.old) }
+        ensures output { output_of self.new ≡ output_of self.old }
+        ensures room { (reads writes bytes : ℕ) → HasRoom self.old reads writes bytes → HasRoom self.new reads writes bytes }
+    {
+        let descriptor = self.cells.register(10);
+        let from = self.cells.register(11);
+        let count = self.cells.register(12);
+        let number = self.cells.register(17);
+        Ok([descriptor, from, count, number])
+    }
+
+    /// Does a short write: appends the x12 bytes from x11 on to the output, which records them, and
+    /// puts x12 into x10.
+    ///
+    /// It makes the room that is missing, and answers Ok in what [`ready_call`](TaskView::ready_call) has made.
+    ///
+    /// # Errors
+    ///
+    /// Want of memory. The view is then as it was.
+    pub fn print(&mut self) -> Result<(), AllocError>
+        requires { is_short_write (seen_of M.at self.old).value ≡ true }
+        ensures sure { HasRoom self.old 256 1 256 → IsOk result }
+        ensures seen { OnOk result (seen_of M.at self.new ≡ after_write (seen_of M.at self.old)) }
+        ensures output { OnOk result (output_of self.new ≡ output_of self.old ++ written_bytes (seen_of M.at self.old)) }
+        ensures err_seen { OnErr result (seen_of M.at self.new ≡ seen_of M.at self.old) }
+        ensures err_output { OnErr result (output_of self.new ≡ output_of self.old) }
+    {
+        self.make_room(256, 1, 256)?;
+        let from = self.cells.register(11);
+        let count = self.cells.register(12);
+        self.show(from, count);
+        self.cells.set_reg(10, count);
+        Ok(())
+    }
+
+    // Appends bytes to the output, which records them. After the last address comes 0.
+    fn show(&mut self, from: u32, count: u32)
+        requires { HasRoom self.old count 0 count }
+        ensures seen { seen_of M.at self.new ≡ read_cells (byte_cells count from) (seen_of M.at self.old) }
+        ensures output { output_of self.new ≡ output_of self.old ++ bytes_from count from (bytes_of (seen_of M.at self.old).value) }
+        ensures room { self.old.cells.kept.writes ≤ self.new.cells.kept.writes }
+    {
+        for i in 0..count {
+            let v = self.cells.byte(from.wrapping_add(i));
+            append(&mut self.output, v);
         }
     }
-    None
 }
 
-// Sets the registers that are marked.
-fn lay_registers(marks: u32, set: &[u32; 32], regs: &mut [u32; 32])
-    ensures { (n : ℕ) → slice_index regs.new n ≡ unwrap_or (put_reg marks (slice_index set.now) n) (slice_index regs.old n) }
+// Appends a byte, in the room that is there.
+#[inline(always)]
+fn append(output: &mut Vec<u8>, v: u8)
+    requires { vec_len output.old < vec_capacity output.old }
+    ensures items { output.new.items ≡ output.old.items ++ v ∷ [] }
+    ensures len { vec_len output.new ≡ vec_len output.old + 1 }
+    ensures capacity { vec_capacity output.old ≤ vec_capacity output.new }
 {
-    for i in 0..32 {
-        if has_register(marks, i as u8) {
-            regs[i] = set[i];
-        }
+    match output.push(v) {
+        Ok(()) => {}
+        Err(_) => {}
     }
 }
 
@@ -137,118 +208,55 @@ impl<M: Memory> View for TaskView<M> {
 
     ghost seen = { seen_of M.at };
 
-    ghost read_room = { λ v. v.kept.reads };
+    ghost read_room = { λ v. v.cells.kept.reads };
 
-    ghost write_room = { λ v. v.kept.writes };
+    ghost write_room = { λ v. v.cells.kept.writes };
 
     #[inline(always)]
-    fn ready(&mut self, _alloc: Global) -> Result<(), AllocError> {
-        if self.kept.reads >= 10 && self.kept.writes >= 5 {
-            return Ok(());
-        }
-        self.kept.make_room(10, 5)
+    fn ready(&mut self, alloc: Global) -> Result<(), AllocError>
+        ensures seen { seen_of M.at self.new ≡ seen_of M.at self.old }
+        ensures ok { OnOk result (HasRoom self.new 10 5 0) }
+        ensures read_room { self.old.cells.kept.reads ≤ self.new.cells.kept.reads }
+        ensures write_room { self.old.cells.kept.writes ≤ self.new.cells.kept.writes }
+        ensures output { output_of self.new ≡ output_of self.old }
+    {
+        self.cells.ready(alloc)
     }
 
     #[inline(always)]
     fn reg(&mut self, r: u8) -> u32 {
-        if r == 0 {
-            return 0;
-        }
-        if has_register(self.put_regs, r) {
-            return self.set[r as usize];
-        }
-        self.read_regs = with_register(self.read_regs, r);
-        self.regs[r as usize]
+        self.cells.reg(r)
     }
 
     #[inline(always)]
     fn set_reg(&mut self, r: u8, v: u32) {
-        if r != 0 {
-            self.put_regs = with_register(self.put_regs, r);
-            self.set[r as usize] = v;
-        }
+        self.cells.set_reg(r, v)
     }
 
     #[inline(always)]
     fn byte(&mut self, a: u32) -> u8 {
-        let place = self.kept.place_to_read(a);
-        match self.kept.lines.look(place, a) {
-            Some(v) => v,
-            None => self.mem.get(a),
-        }
+        self.cells.byte(a)
     }
 
     #[inline(always)]
-    fn fetch(&mut self, a: u32) -> u32 {
-        match self.kept.lines.look_near(a) {
-            Four::Checkpoint => self.mem.fetch(a),
-            Four::Put(w) => w,
-            Four::Both => self.word_by_bytes(a),
-        }
+    fn fetch(&mut self, a: u32) -> u32
+        requires aligned { a % 4 ≡ 0 }
+        requires room { 4 ≤ self.old.cells.kept.reads }
+        ensures value { result ≡ number 4 a (bytes_of (seen_of M.at self.old).value) }
+        ensures seen { seen_of M.at self.new ≡ read_cells (byte_cells 4 a) (seen_of M.at self.old) }
+        ensures room { (reads writes bytes : ℕ) → HasRoom self.old (reads + 4) writes bytes → HasRoom self.new reads writes bytes }
+        ensures output { output_of self.new ≡ output_of self.old }
+    {
+        self.cells.fetch(a)
     }
 
     #[inline(always)]
     fn word(&mut self, a: u32) -> u32 {
-        if a % 64 > 60 {
-            return self.word_by_bytes(a);
-        }
-        match self.kept.lines.look_near(a) {
-            Four::Checkpoint => self.mem.word(a),
-            Four::Put(w) => w,
-            Four::Both => self.word_by_bytes(a),
-        }
+        self.cells.word(a)
     }
 
-    fn put(&mut self, _alloc: Global, a: u32, bytes: &[u8]) -> Result<(), AllocError> {
-        self.kept.put_all(a, bytes);
-        Ok(())
+    #[inline(always)]
+    fn put(&mut self, alloc: Global, a: u32, bytes: &[u8]) -> Result<(), AllocError> {
+        self.cells.put(alloc, a, bytes)
     }
-}
-
-impl<M: Memory> TaskView<M> {
-    ghost use Rattle.std.specs.Prelude.{◌≤◌};
-    ghost use Rattle.cells.specs.Bytes.{byte_cells, number};
-    ghost use Rattle.cells.specs.Seen.{read_cells};
-    ghost use Rattle.rv_run.specs.Values.{bytes_of};
-
-    // A word some of whose bytes were put, or that lies in two lines.
-    #[inline(never)]
-    fn word_by_bytes(&mut self, a: u32) -> u32
-        requires { 4 ≤ self.old.kept.reads }
-        ensures value { result ≡ number 4 a (bytes_of (seen_of M.at self.old).value) }
-        ensures seen { seen_of M.at self.new ≡ read_cells (byte_cells 4 a) (seen_of M.at self.old) }
-        ensures read_room { self.old.kept.reads ≤ self.new.kept.reads + 4 }
-        ensures write_room { self.old.kept.writes ≤ self.new.kept.writes }
-    {
-        let first = self.byte(a);
-        let second = self.byte(a.wrapping_add(1));
-        let third = self.byte(a.wrapping_add(2));
-        let last = self.byte(a.wrapping_add(3));
-        spell_four(first, second, third, last)
-    }
-}
-
-// The number that four bytes spell, the lowest first.
-fn spell_four(first: u8, second: u8, third: u8, fourth: u8) -> u32
-    ensures { result ≡ first + 2 ^ 8 * (second + 2 ^ 8 * (third + 2 ^ 8 * fourth)) }
-{
-    u32::from_le_bytes([first, second, third, fourth])
-}
-
-// Whether a register is marked.
-#[inline(always)]
-fn has_register(marks: u32, r: u8) -> bool
-    requires { r < 32 }
-    ensures { result ≡ has marks r }
-{
-    marks >> r & 1 == 1
-}
-
-// The marks with a register.
-#[inline(always)]
-fn with_register(marks: u32, r: u8) -> u32
-    requires { r < 32 }
-    ensures { (j : ℕ) → has result j ≡ (has marks j || nat_eq r j) }
-{
-    marks | 1 << r
 }

@@ -1,2 +1,4 @@
 pub mod Keeps
 pub mod Worlds
+pub mod Calls
+pub mod Bounds

@@ -10,10 +10,9 @@ use Rattle.speculation.specs.declared.Ending.{Ending}
 use Rattle.speculation.specs.declared.Ending.TheVariants.{Reached, Met, Full}
 use Rattle.speculation.specs.World.{arrivals}
 use Rattle.speculation.specs.Task.{Task, IsTask, EndFits}
-use Rattle.rv_run.specs.Machine.{machine}
 use Rattle.dist_image.specs.declared.image.Anchor.{Anchor}
 use Rattle.dist_image.specs.Image.{Distilled, anchor_at, anchor_from}
-use Rattle.image_world.specs.World.{world, count_of, entry}
+use Rattle.image_world.specs.World.{world, task_machine, count_of, entry}
 
 -- an anchor's number is one of the table
 abbrev IsIn : ℕ → List Anchor → Option ℕ → Type 0
@@ -45,10 +44,10 @@ pub anchored : (image : Distilled) (pc : ℕ) → is_some (anchor_at image pc) �
 anchored image pc = entry_in image.anchors (anchor_at image pc) (anchor_in 0 pc image.anchors)
 
 pub one_more : (start : State) (image : Distilled) (slaves : ℕ) (c : Arch) (t : ℕ)
-    → arrivals (world start image slaves) c (suc t) ≡ from_bool (is_some (anchor_at image (moves machine c (suc t)).pc)) + arrivals (world start image slaves) c t
+    → arrivals (world start image slaves) c (suc t) ≡ from_bool (is_some (anchor_at image (moves (task_machine image) c (suc t)).pc)) + arrivals (world start image slaves) c t
 one_more start image slaves c t =
-    ap (λ b. cond b 1 0 + arrivals (world start image slaves) c t) (sym (anchored image (moves machine c (suc t)).pc))
-    ∙ ap (λ (n : ℕ). n + arrivals (world start image slaves) c t) (as_number (is_some (anchor_at image (moves machine c (suc t)).pc)))
+    ap (λ b. cond b 1 0 + arrivals (world start image slaves) c t) (sym (anchored image (moves (task_machine image) c (suc t)).pc))
+    ∙ ap (λ (n : ℕ). n + arrivals (world start image slaves) c t) (as_number (is_some (anchor_at image (moves (task_machine image) c (suc t)).pc)))
   where
     as_number : (b : Bool) → cond b 1 0 ≡ from_bool b
     as_number true = refl
@@ -57,7 +56,7 @@ one_more start image slaves c t =
 module _ (start : State) (image : Distilled) (m n : ℕ) where
   arrivals_same : (c : Arch) (t : ℕ) → arrivals (world start image m) c t ≡ arrivals (world start image n) c t
   arrivals_same c zero = refl
-  arrivals_same c (suc t) = ap (λ (a : ℕ). cond (is_some (count_of image (moves machine c (suc t)).pc)) 1 0 + a) (arrivals_same c t)
+  arrivals_same c (suc t) = ap (λ (a : ℕ). cond (is_some (count_of image (moves (task_machine image) c (suc t)).pc)) 1 0 + a) (arrivals_same c t)
 
   fewer : (c : Arch) (t count : ℕ) → arrivals (world start image m) c t < count → arrivals (world start image n) c t < count
   fewer c t count l = subst (λ (a : ℕ). a < count) (arrivals_same c t) l

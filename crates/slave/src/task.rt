@@ -1,10 +1,13 @@
 //! A task and its events.
 ghost use Rattle.std.specs.Prelude.{◌≡◌, ℕ, ◌%◌};
+ghost use Rattle.dist_image.specs.Image.{IsImage, prints_at};
 
 use crate::did::{SlaveDid, did_of, ending_after, next_of};
-use dist_image::{Anchor, Image, anchor_at};
+use dist_image::{Anchor, Image, anchor_at, prints_at};
 use layers::TaskView;
-use rv_step::{Memory, View, step};
+use rv_run::is_short_write;
+use rv_step::{Memory, View};
+use rv_word::{Inst, decode};
 use speculation::Ending;
 use std::alloc::{AllocError, Global};
 
@@ -22,14 +25,15 @@ pub struct Task<M: Memory> {
 }
 
 impl<M: Memory> Task<M> {
-    ghost use Rattle.std.specs.Prelude.{◌<◌, IsNone, IfSome, IfOk, OnOk, OnErr};
+    ghost use Rattle.std.specs.Prelude.{◌<◌, ℕ, Bool, true, false, IsNone, IsOk, IfSome, IfOk, OnOk, OnErr};
     ghost use Rattle.cells.specs.Run.{State};
     ghost use Rattle.speculation.specs.Task.{new_task, advance as next_task};
     ghost use Rattle.rv_run.specs.Values.{arch_of, plain_value};
-    ghost use Rattle.rv_step.specs.Outcome.{step_outcome};
-    ghost use Rattle.dist_image.specs.Image.{Distilled, IsImage, IsAnchor};
+    ghost use Rattle.rv_run.specs.Prints.{is_short_write};
+    ghost use Rattle.layers.specs.Layered.{HasRoom};
+    ghost use Rattle.dist_image.specs.Image.{Distilled, IsImage, IsAnchor, prints_at};
     ghost use Rattle.image_world.specs.World.{world};
-    ghost use Rattle.slave.specs.Task.{shown, fresh, did_of, next_of, went, advanced, modelled, IsTaskOf, FollowsRun};
+    ghost use Rattle.slave.specs.Task.{shown, fresh, did_of, went, performed, goes_to, called, goes_behind, advanced, modelled, IsTaskOf, FollowsRun};
 
     /// A task of this number at an anchor of an image, with the registers and the memory there. Its
     /// view records the anchor's pc.
@@ -99,9 +103,11 @@ impl<M: Memory> Task<M> {
     ///
     /// Where a call stands at its pc, or an instruction that would end the run, the task is done
     /// with [`Ending::Met`] and takes no step; the cells that were read for this decision are
-    /// recorded. Otherwise it takes a step. It is done with [`Ending::Reached`] where it has then
-    /// come to its last anchor, and else with [`Ending::Full`] where it has taken as many steps as
-    /// the image's limit.
+    /// recorded. At a pc in the image's writes these are x10, x11, x12 and x17, too, and a call that
+    /// writes at most 256 bytes to the output is a step: the bytes are recorded and added to the
+    /// task's own output, and x12 is put into x10. Otherwise the task takes a step. It is done with
+    /// [`Ending::Reached`] where it has then come to its last anchor, and else with
+    /// [`Ending::Full`] where it has taken as many steps as the image's limit.
     ///
     /// # Errors
     ///
@@ -118,21 +124,61 @@ impl<M: Memory> Task<M> {
         ensures model { OnOk result (IsTaskOf image.now (shown M.at self.old) → (start : State) (slaves : ℕ) → modelled (shown M.at self.new) ≡ next_task (world start image.now slaves) (modelled (shown M.at self.old))) }
         ensures law { OnOk result (IsTaskOf image.now (shown M.at self.old) → FollowsRun (shown M.at self.new)) }
     {
-        let next = self.perform(alloc)?;
+        let next = self.perform(alloc, image)?;
         self.go_on(image, next);
         Ok(did_of(self.ending))
     }
 
-    // Does the instruction at the pc on the view, and answers where it goes on, if it does.
-    fn perform(&mut self, alloc: Global) -> Result<Option<u32>, AllocError>
-        ensures next { IfOk result (λ next. next ≡ next_of (step_outcome self.old.pc (shown M.at self.old).seen).flow) }
+    // Does the instruction at the pc on the view, or the short write, and answers where the task goes on, if it does.
+    #[inline(always)]
+    fn perform(&mut self, alloc: Global, image: &Image) -> Result<Option<u32>, AllocError>
+        requires { IsImage image.now }
+        ensures next { IfOk result (λ next. next ≡ goes_to (prints_at image.now) (shown M.at self.old)) }
         ensures aligned { IfOk result (λ next. IfSome next (λ to. to % 4 ≡ 0)) }
-        ensures ok { OnOk result (shown M.at self.new ≡ record (shown M.at self.old) { seen = (step_outcome self.old.pc (shown M.at self.old).seen).seen }) }
+        ensures ok { OnOk result (shown M.at self.new ≡ performed (prints_at image.now) (shown M.at self.old)) }
         ensures err { OnErr result (shown M.at self.new ≡ shown M.at self.old) }
     {
+        if may_print(image, self.pc) {
+            return self.perform_or_print(alloc);
+        }
         self.view.ready(alloc)?;
-        let flow = step(alloc, &mut self.view, self.pc)?;
+        let flow = self.view.step(alloc, self.pc)?;
         Ok(next_of(flow))
+    }
+
+    // The same where the task may print: a short write doesn't stop it.
+    #[inline(never)]
+    fn perform_or_print(&mut self, alloc: Global) -> Result<Option<u32>, AllocError>
+        ensures next { (prints : ℕ → Bool) → prints self.old.pc ≡ true → IfOk result (λ next. next ≡ goes_to prints (shown M.at self.old)) }
+        ensures aligned { IfOk result (λ next. IfSome next (λ to. to % 4 ≡ 0)) }
+        ensures ok { (prints : ℕ → Bool) → prints self.old.pc ≡ true → OnOk result (shown M.at self.new ≡ performed prints (shown M.at self.old)) }
+        ensures err { OnErr result (shown M.at self.new ≡ shown M.at self.old) }
+    {
+        self.view.ready_call()?;
+        let word = self.view.fetch(self.pc);
+        match decode(word) {
+            Inst::Ecall => self.call(),
+            _ => {
+                let flow = self.view.step(alloc, self.pc)?;
+                Ok(next_of(flow))
+            }
+        }
+    }
+
+    // Does the call at the pc, whose word was fetched, if it is a short write.
+    fn call(&mut self) -> Result<Option<u32>, AllocError>
+        requires { HasRoom self.old.view 256 1 256 }
+        ensures sure { IsOk result }
+        ensures next { IfOk result (λ next. next ≡ goes_behind (is_short_write (shown M.at self.old).seen.value) self.old.pc) }
+        ensures aligned { IfOk result (λ next. IfSome next (λ to. to % 4 ≡ 0)) }
+        ensures ok { OnOk result (shown M.at self.new ≡ called (is_short_write (shown M.at self.old).seen.value) (shown M.at self.old)) }
+    {
+        let [descriptor, _, count, number] = self.view.call_args()?;
+        if !is_short_write(number, descriptor, count) {
+            return Ok(None);
+        }
+        self.view.print()?;
+        Ok(Some(self.pc.wrapping_add(4)))
     }
 
     // Goes on at this pc, and is done there with the last anchor or the last step; without one, meets what stands at its own.
@@ -154,4 +200,13 @@ impl<M: Memory> Task<M> {
             None => self.ending = Some(Ending::Met),
         }
     }
+}
+
+// Whether a task may print at this pc. An image that lists none is seen at once.
+#[inline(always)]
+fn may_print(image: &Image, pc: u32) -> bool
+    requires { IsImage image.now }
+    ensures { result ≡ prints_at image.now pc }
+{
+    !image.writes.is_empty() && prints_at(image, pc)
 }

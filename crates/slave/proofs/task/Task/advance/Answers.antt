@@ -1,7 +1,7 @@
 -- An event of a task: what the code did is the event on what contracts see, and so all else that is known of that.
-use Rattle.std.proofs.Common.{◌≡◌, sym, ap, ◌∙◌, subst}
+use Rattle.std.proofs.Common.{sym, ap, ◌∙◌, subst}
 use Rattle.dist_image.specs.Image.{Distilled}
-use Rattle.slave.specs.Task.{Shown, shown, advanced, modelled, IsTaskOf}
+use Rattle.slave.specs.Task.{Shown, shown, modelled, IsTaskOf}
 use Rattle.slave.proofs.Keeps.{went_is, goes, advanced_is_task, follows_run, none_is, on_err}
 use Rattle.slave.proofs.task.Task.advance.Goals as goal
 
