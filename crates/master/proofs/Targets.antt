@@ -10,8 +10,7 @@ use Rattle.cells.specs.declared.Cell.{Cell}
 use Rattle.cells.specs.declared.Cell.TheVariants.{Reg}
 use Rattle.cells.specs.Seen.{puts_of}
 use Rattle.rv_run.specs.Values.{register_puts}
-use Rattle.rv_run.specs.Effect.{effect, jumped, branched, holds, sum32, after}
-use Rattle.master.specs.Word.{is_store}
+use Rattle.rv_run.specs.Effect.{effect, jumped, branched, holds, sum32, after, is_store}
 
 -- register q is not put
 abbrev Leaves : ℕ → List (Cell × ℕ) → Type 0

@@ -1,12 +1,19 @@
 -- The master of the code as the world has it, and its answers as what an event of the world's master does.
-use Rattle.std.specs.Prelude.{◌≡◌, ℕ, ◌+◌, ◌*◌, ◌&&◌, cond, nat_eq, nat_lt, slice_get, Option, Some, None, unwrap_or}
+use Rattle.std.specs.Prelude.{◌≡◌, ℕ, ◌+◌, ◌*◌, ◌&&◌, cond, nat_eq, nat_lt, [], ◌∷◌, slice_get, Option, Some, None, unwrap_or}
 use Rattle.std.specs.Option.{option_map}
+use Rattle.cells.specs.declared.Cell.TheVariants.{Reg}
+use Rattle.cells.specs.Cells.{value}
+use Rattle.speculation.specs.declared.Why.TheVariants as why
 use Rattle.speculation.specs.World.{Master, Driven, Goes, Spawns, Stays, Halts}
 use Rattle.rv_run.specs.Values.{arch_of}
+use Rattle.rv_run.specs.Effect.{next, after}
+use Rattle.rv_run.specs.Prints.{is_short_write}
+use Rattle.rv_run.specs.Machine.{moved}
 use Rattle.dist_image.specs.declared.image.Slot.{Slot}
 use Rattle.dist_image.specs.declared.image.Slot.TheVariants.{Fork}
 use Rattle.dist_image.specs.declared.image.Anchor.{Anchor}
-use Rattle.dist_image.specs.Image.{Distilled}
+use Rattle.dist_image.specs.Image.{Distilled, slot_of, prints_at}
+use Rattle.image_world.specs.World.{go_to}
 use Rattle.master.specs.declared.master.Master.{Master as CodeMaster}
 use Rattle.master.specs.declared.master.MasterDid.{MasterDid}
 use Rattle.master.specs.declared.master.MasterDid.TheVariants.{Moved, Spawned, Stalled, Halted}
@@ -23,6 +30,13 @@ forking _ = None
 -- the number of the anchor where the next event spawns a task, if it would
 unfoldable pub next_spawn : Distilled → Master → Option ℕ
 next_spawn image a = cond (nat_lt a.spent (4 * image.limit + 4) && nat_eq a.left 1) (forking (slice_get image.slots a.slot)) None
+
+-- a call of a slot: a short write, where tasks print, answers the number of its bytes; any other halts the master
+abbrev pub called : Distilled → Master → ℕ → Driven
+called image a origin =
+    cond (prints_at image origin && is_short_write (value a.arch))
+    (go_to a (moved (next origin ((Reg 10, a.arch.regs 12) ∷ [])) a.arch) (slot_of image (after origin)))
+    (Halts why.Call)
 
 -- the pc of the anchor of a number
 abbrev pub anchor_pc : Distilled → ℕ → ℕ

@@ -1,16 +1,19 @@
 //! The master and its events.
-ghost use Rattle.std.specs.Prelude.{◌≡◌, ◌==◌, if◌then◌else◌, ℕ, ◌+◌, ◌*◌, ◌-◌, ◌^◌, ◌<◌, length, slice_get, true, false, IfOk, OnErr};
+ghost use Rattle.std.specs.Prelude.{◌≡◌, ◌==◌, if◌then◌else◌, ℕ, ◌+◌, ◌*◌, ◌-◌, ◌^◌, ◌<◌, length, slice_get, true, false, ◌&&◌, IfOk, OnErr};
 ghost use Rattle.rv_run.specs.Values.{arch_of};
 ghost use Rattle.rv_word.specs.Meaning.{meaning};
-ghost use Rattle.dist_image.specs.Image.{IsImage, slot_of as place_of};
+ghost use Rattle.dist_image.specs.Image.{IsImage, slot_of as place_of, prints_at};
+ghost use Rattle.cells.specs.Cells.{value};
+ghost use Rattle.rv_run.specs.Prints.{is_short_write};
 ghost use Rattle.image_world.specs.World.{drive, begin_behind, fork as forked, go_to, exec_at};
-ghost use Rattle.master.specs.Shown.{shown, next_spawn, as_driven, Keeps, SpawnsNext};
+ghost use Rattle.rv_run.specs.Effect.{is_store as stores};
+ghost use Rattle.master.specs.Shown.{shown, next_spawn, called, as_driven, Keeps, SpawnsNext};
 ghost use Rattle.master.specs.Shown as spec;
-ghost use Rattle.master.specs.Word.{is_store as stores};
 
 use crate::places::Places;
 use crate::word::{is_store, perform, set_register, target};
-use dist_image::{Anchor, Image, Slot};
+use dist_image::{Anchor, Image, Slot, prints_at};
+use rv_run::is_short_write;
 use rv_step::{Arch, Flow, Memory};
 use speculation::Why;
 use std::alloc::{AllocError, Global};
@@ -271,8 +274,41 @@ impl<M: Memory> Master<M> {
                     Ok(self.move_to(slot))
                 }
             },
-            Flow::Call => Ok(MasterDid::Halted(Why::Call)),
+            Flow::Call => Ok(self.call(image, origin)),
             Flow::Break | Flow::Illegal(_) | Flow::Misfetch(_) => Ok(MasterDid::Halted(Why::Trap)),
+        }
+    }
+
+    // Whether a call at `origin` is one that a task does.
+    fn answers(&self, image: &Image, origin: u32) -> bool
+        requires { IsImage image.now }
+        ensures { result ≡ (prints_at image.now origin && is_short_write (value (shown M.at self.now).arch)) }
+    {
+        let regs = &self.arch.regs;
+        prints_at(image, origin) && is_short_write(regs[17], regs[10], regs[12])
+    }
+
+    // Where tasks print, a short write goes on behind itself and answers the number of its bytes. The
+    // master shows none of them: the task that does the same call does. Any other call halts it.
+    fn call(&mut self, image: &Image, origin: u32) -> MasterDid
+        requires image { IsImage image.now }
+        requires spent { self.old.spent < 2 ^ 32 - 1 }
+        ensures ok { as_driven image.now result (shown M.at self.new) ≡ called image.now (shown M.at self.old) origin }
+        ensures spawned { SpawnsNext None result }
+        ensures stays { Keeps (shown M.at self.old) (shown M.at self.new) result }
+    {
+        if !self.answers(image, origin) {
+            return MasterDid::Halted(Why::Call);
+        }
+        let behind = origin.wrapping_add(4);
+        match self.places.slot_at(image, behind) {
+            None => MasterDid::Halted(Why::Lost),
+            Some(slot) => {
+                let length = self.arch.regs[12];
+                set_register(&mut self.arch.regs, 10, length);
+                self.arch.pc = behind;
+                self.move_to(slot)
+            }
         }
     }
 
