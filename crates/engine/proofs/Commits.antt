@@ -1,18 +1,18 @@
 -- The tasks' steps and commits, from what the code's tasks tell.
-use Rattle.std.proofs.Common.{◌≡◌, ℕ, ◌+◌, suc, zero, false, cond, ◌||◌, List, [], ◌∷◌, ◌++◌, length, Option, Some, None, refl, sym, ap, ◌∙◌, subst}
+use Rattle.std.proofs.Common.{◌≡◌, ℕ, ◌+◌, suc, zero, Bool, true, false, cond, ◌||◌, List, [], ◌∷◌, length, Option, Some, None, refl, sym, ap, ◌∙◌, subst}
 use Rattle.std.specs.Prelude.{is_some}
 use mathlib.Core.Bool.{Bool-set}
 use Rattle.std.proofs.Math.Logic.{∥∥₁_elim, ∥∥₁_map}
-use Rattle.std.proofs.lemmas.List.{append-nil, length-map}
+use Rattle.std.proofs.lemmas.List.{length-map}
 use Rattle.cells.specs.declared.Cell.{Cell}
 use Rattle.cells.specs.declared.Cell.TheVariants.{Pc, Reg}
 use Rattle.cells.specs.declared.Differ.{Differ}
 use Rattle.cells.specs.Cells.{Arch, value, from_cells}
 use Rattle.cells.specs.Differ.{differ}
-use Rattle.cells.specs.Run.{State, Env, printed}
+use Rattle.cells.specs.Run.{State, printed}
 use Rattle.cells.specs.Task.{said, apply, moves, written}
 use Rattle.cells.specs.Bytes.{number}
-use Rattle.cells.specs.Seen.{Seen}
+use Rattle.cells.specs.Seen.{Seen, puts_of}
 use Rattle.speculation.specs.declared.Counts.{Counts}
 use Rattle.speculation.specs.declared.Effect.TheVariants.{Committed, Squashed, Idle}
 use Rattle.speculation.specs.declared.Ending.{Ending}
@@ -21,32 +21,26 @@ use Rattle.speculation.specs.declared.Event.TheVariants as event
 use Rattle.speculation.specs.World.{Master}
 use Rattle.speculation.specs.Task.{record_of}
 use Rattle.speculation.specs.Engine.{Answer, settled, dropped_by, committed_as, commit_front, commit, going_on}
+use Rattle.rv_word.specs.declared.inst.Inst.{Inst}
 use Rattle.rv_word.specs.Meaning.{meaning}
 use Rattle.rv_word.specs.Masks.{sources}
 use Rattle.rv_run.specs.Values.{bytes_of}
-use Rattle.rv_run.specs.Effect.{first, second, load_count, load_from}
-use Rattle.rv_run.specs.Machine.{machine, word_at}
+use Rattle.rv_run.specs.Effect.{next, effect_at, first, second, load_count, load_from}
+use Rattle.rv_run.specs.Prints.{is_task_call}
+use Rattle.rv_run.specs.Machine.{machine_in, word_at}
 use Rattle.seq_machine.proofs.Advances.{zero_unput}
-use Rattle.dist_image.specs.Image.{Distilled}
-use Rattle.image_world.specs.World.{world}
+use Rattle.dist_image.specs.Image.{Distilled, prints_at}
+use Rattle.image_world.specs.World.{world, task_machine}
 use Rattle.layers.specs.Layered.{laid}
 use Rattle.slave.specs.Task.{Shown as TaskShown, modelled as task_modelled, IsTaskOf}
 use Rattle.slave.proofs.Keeps.{laid_is}
 use Rattle.engine.specs.Shown.{Shown, modelled, tasks_modelled, AreTasksOf, Does, MayTake, IsCostly, rested, given_up, retired, dropped_of, younger}
-use Rattle.engine.proofs.Sets.{Arch-set, Record-set}
+use Rattle.engine.proofs.Sets.{Arch-set, Bytes-set, Record-set}
 use Rattle.engine.proofs.Lists.{tasks_younger}
 
--- nothing is said by the machine's steps, so the output stays
-said_none : (c : Arch) (t : ℕ) → said machine c t ≡ []
-said_none c zero = refl
-said_none c (suc t) = ap (λ bytes. bytes ++ []) (said_none c t)
-
-printed_none : (e : Env) (c : Arch) (t : ℕ) → printed e (said machine c t) ≡ e
-printed_none e c t = ap (printed e) (said_none c t) ∙ (λ i. record e { output = append-nil e.output i })
-
--- the state with the task's pc and what it wrote
+-- the state with the task's pc and what it wrote, and its output appended
 abbrev pub laid_on : TaskShown → State → State
-laid_on k s = record s { arch = from_cells (laid k.pc k.seen (value s.arch)) }
+laid_on k s = record { arch = from_cells (laid k.pc k.seen (value s.arch)); env = printed s.env k.output }
 
 abbrev pub moved_on : TaskShown → Shown → Shown
 moved_on k s = record s { committed = laid_on k s.committed; position = s.position + k.steps }
@@ -62,25 +56,34 @@ rested_tasks image u None (k ∷ ks) h = h
 rested_tasks image u (Some a) l h = h
 
 -- what a task's view has of register 0: the machine never writes it
-written_zero : (c : Arch) (t : ℕ) → written machine c t (Reg 0) ≡ false
-written_zero c zero = refl
-written_zero c (suc t) =
-    let s = moves machine c t in
-    (λ i. written_zero c t i || is_some (zero_unput (meaning (word_at s)) s.pc (first (sources (meaning (word_at s))) (value s)) (second (sources (meaning (word_at s))) (value s)) (number (load_count (meaning (word_at s))) (load_from (meaning (word_at s)) (first (sources (meaning (word_at s))) (value s))) (bytes_of (value s))) i))
+unput : (i : Inst) (pc : ℕ) (v : Cell → ℕ) (b : Bool) → is_some (puts_of (cond b (next pc ((Reg 10, v (Reg 12)) ∷ [])) (effect_at i pc v)).puts (Reg 0)) ≡ false
+unput i pc v true = refl
+unput i pc v false = ap is_some (zero_unput i pc (first (sources i) v) (second (sources i) v) (number (load_count i) (load_from i (first (sources i) v)) (bytes_of v)))
+
+module _ (prints : ℕ → Bool) where
+  written_zero : (c : Arch) (t : ℕ) → written (machine_in prints) c t (Reg 0) ≡ false
+  written_zero c zero = refl
+  written_zero c (suc t) =
+      let s = moves (machine_in prints) c t in
+      let i = meaning (word_at s) in
+      λ j. written_zero c t j || unput i s.pc (value s) (is_task_call prints i s.pc (value s)) j
 
 module _ (image : Distilled) (s : Shown) (k : TaskShown) (ks : List TaskShown) (tasks : s.tasks ≡ k ∷ ks) (all : ∥ AreTasksOf image s.tasks ∥₁) where
   known : ∥ IsTaskOf image k ∥₁
   known = ∥∥₁_map all (λ h. (subst (AreTasksOf image) tasks h).0)
 
   pub wrote_zero : k.seen.wrote (Reg 0) ≡ false
-  wrote_zero = ∥∥₁_elim known (Bool-set _ _) (λ h. ap (λ (x : Seen). x.wrote (Reg 0)) (h s.committed 1).seen ∙ written_zero (from_cells k.seen.base) k.steps)
+  wrote_zero = ∥∥₁_elim known (Bool-set _ _) (λ h. ap (λ (x : Seen). x.wrote (Reg 0)) (h s.committed 1).seen ∙ written_zero (prints_at image) (from_cells k.seen.base) k.steps)
 
   module _ (start : State) (slaves : ℕ) where
     recorded_is : k.seen.recorded ≡ record_of (world start image slaves) (task_modelled k)
     recorded_is = ∥∥₁_elim known (Record-set _ _) (λ h. ap (λ (x : Seen). x.recorded) (h start slaves).seen)
 
-    laid_is_applied : from_cells (laid k.pc k.seen (value s.committed.arch)) ≡ apply machine (from_cells k.seen.base) k.steps s.committed.arch
+    laid_is_applied : from_cells (laid k.pc k.seen (value s.committed.arch)) ≡ apply (task_machine image) (from_cells k.seen.base) k.steps s.committed.arch
     laid_is_applied = ∥∥₁_elim known (Arch-set _ _) (λ h. laid_is (world start image slaves) k (h start slaves) (value s.committed.arch))
+
+    output_is : k.output ≡ said (task_machine image) (from_cells k.seen.base) k.steps
+    output_is = ∥∥₁_elim known (Bytes-set _ _) (λ h. (h start slaves).output)
 
     module _ (c : Counts) where
       commit_is : (o : Option Ending) (d : Option Differ) → k.ending ≡ o → differ k.seen.recorded (value s.committed.arch) ≡ d
@@ -91,10 +94,10 @@ module _ (image : Distilled) (s : Shown) (k : TaskShown) (ks : List TaskShown) (
           ∙ ap (commit_front (world start image slaves) (modelled s c) (task_modelled k) (tasks_modelled ks) o) differs
 
       committed_is : laid_on k s.committed
-          ≡ record { arch = apply machine (from_cells k.seen.base) k.steps s.committed.arch; env = printed s.committed.env (said machine (from_cells k.seen.base) k.steps) }
+          ≡ record { arch = apply (task_machine image) (from_cells k.seen.base) k.steps s.committed.arch; env = printed s.committed.env (said (task_machine image) (from_cells k.seen.base) k.steps) }
       committed_is = λ i. record {
         arch = laid_is_applied i;
-        env = sym (printed_none s.committed.env (from_cells k.seen.base) k.steps) i;
+        env = printed s.committed.env (output_is i);
       }
 
       dropped_is : length (younger s.tasks) ≡ length (tasks_modelled ks)

@@ -17,11 +17,11 @@ use Rattle.speculation.specs.Task.{new_task}
 use Rattle.speculation.specs.Engine.{Model, driven, spawned, started, master_step, going_on, restart}
 use Rattle.rv_word.specs.Meaning.{meaning}
 use Rattle.rv_run.specs.Effect.{effect_at}
-use Rattle.rv_run.specs.Machine.{exec}
+use Rattle.rv_run.specs.Machine.{exec_in}
 use Rattle.dist_image.specs.declared.image.Slot.{Slot}
 use Rattle.dist_image.specs.declared.image.Slot.TheVariants.{Exec, Go, Fork}
 use Rattle.dist_image.specs.declared.image.Anchor.{Anchor}
-use Rattle.dist_image.specs.Image.{Distilled, IsImage, slot_of}
+use Rattle.dist_image.specs.Image.{Distilled, IsImage, slot_of, prints_at}
 use Rattle.image_world.specs.World.{world, drive, slot_done, fork, go_to, why_of, begin, begin_behind, anchor_of, count_of}
 use Rattle.image_world.proofs.Known.{known}
 use Rattle.slave.specs.Task.{fresh, modelled as task_modelled}
@@ -161,11 +161,11 @@ slot_acts : (image : Distilled) (room : Bool) (a : Master) (o : Option Slot) →
 slot_acts image room a None s at due = tt
 slot_acts image room a (Some (Fork k)) s at due = fork_acts image room a k (slice_get image.anchors k) s at due
 slot_acts image room a (Some (Go target)) s at due = go_acts a a.arch (slot_of image target)
-slot_acts image room a (Some (Exec origin word)) s at due = go ((exec word).stops (record a.arch { pc = origin }))
+slot_acts image room a (Some (Exec origin word)) s at due = go ((exec_in (prints_at image) word).stops (record a.arch { pc = origin }))
   where
-    go : (b : Bool) → Acts (cond b (Halts (why_of (effect_at (meaning word) origin (value (record a.arch { pc = origin }))).flow)) (go_to a ((exec word).move (record a.arch { pc = origin })) (slot_of image ((exec word).move (record a.arch { pc = origin })).pc)))
+    go : (b : Bool) → Acts (cond b (Halts (why_of (effect_at (meaning word) origin (value (record a.arch { pc = origin }))).flow)) (go_to a ((exec_in (prints_at image) word).move (record a.arch { pc = origin })) (slot_of image ((exec_in (prints_at image) word).move (record a.arch { pc = origin })).pc)))
     go true = tt
-    go false = go_acts a ((exec word).move (record a.arch { pc = origin })) (slot_of image ((exec word).move (record a.arch { pc = origin })).pc)
+    go false = go_acts a ((exec_in (prints_at image) word).move (record a.arch { pc = origin })) (slot_of image ((exec_in (prints_at image) word).move (record a.arch { pc = origin })).pc)
 
 drive_acts : (image : Distilled) (room : Bool) (a : Master) → next_spawn image a ≡ None → Acts (drive image room a)
 unfolding drive

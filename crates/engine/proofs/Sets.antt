@@ -1,6 +1,6 @@
 -- Types in which an equation has one proof at most.
 use Rattle.std.proofs.Props.{props}
-use Rattle.std.specs.Prelude.{ℕ, Option}
+use Rattle.std.specs.Prelude.{ℕ, List, Option}
 use Rattle.cells.specs.declared.Cell.{Cell}
 use Rattle.cells.specs.Cells.{Arch}
 use Rattle.cells.specs.Run.{State}
@@ -14,6 +14,9 @@ Task-set = hlevel props
 
 pub State-set : IsSet State
 State-set = hlevel props
+
+pub Bytes-set : IsSet (List ℕ)
+Bytes-set = hlevel props
 
 pub Record-set : IsSet (Cell → Option ℕ)
 Record-set = hlevel props

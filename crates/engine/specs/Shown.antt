@@ -112,6 +112,11 @@ Happens image slaves e old effect new = (start : State) (c : Counts) →
 abbrev pub IsCostly : Distilled → ℕ → Event → Shown → Type 0
 IsCostly image slaves e s = (start : State) (c : Counts) → MayTake (going_on (world start image slaves) (modelled s c) e).0
 
+-- nothing is speculated on
+abbrev pub IsSerial : Mode → Type 0
+IsSerial (Serial debt) = Unit {0}
+IsSerial Speculating = ⊥
+
 -- a slave runs the task whose number is its own modulo the number of slaves
 abbrev pub is_run_by : ℕ → ℕ → TaskShown → Bool
 is_run_by slaves slave k = nat_eq (k.number % slaves) slave && not (is_some k.ending)

@@ -55,12 +55,12 @@ fn copy_of<M: Memory>(alloc: Global, machine: &Machine<M>) -> Result<Machine<M>,
 }
 
 impl<M: Memory> Engine<M> {
-    ghost use Rattle.std.specs.Prelude.{ℕ, ◌+◌, ◌-◌, ◌^◌, ◌<◌, ◌||◌, Bool, true, length, OnErr, IsNone};
+    ghost use Rattle.std.specs.Prelude.{ℕ, ◌+◌, ◌-◌, ◌^◌, ◌<◌, ◌||◌, Bool, true, false, length, OnErr, IsNone};
     ghost use Rattle.cells.specs.Run.{is_over};
     ghost use Rattle.speculation.specs.World.{seq};
     ghost use Rattle.speculation.specs.Engine.{happens, fresh};
     ghost use Rattle.speculation_laws.specs.Told.{Tells, waits, is_idle};
-    ghost use Rattle.engine.specs.Shown.{MayTake};
+    ghost use Rattle.engine.specs.Shown.{MayTake, IsSerial};
     ghost use Rattle.engine.specs.Whole.{start_of, image_of, slaves_of, world_of, model_of};
 
     /// An engine that has had no event, over a machine at the start of a run. It runs in the world
@@ -142,6 +142,24 @@ impl<M: Memory> Engine<M> {
         let effect = self.stage.happen(alloc, e)?;
         count(&mut self.counts, e, effect);
         Ok(effect)
+    }
+
+    /// Exchanges the image. The run must not have ended, and nothing may be speculated on. Takes no
+    /// memory.
+    ///
+    /// All else stays, the step that is owed too. What is committed is the sequential run, which
+    /// knows no image.
+    pub fn set_image(&mut self, image: Image)
+        requires image { IsImage image }
+        requires serial { IsSerial (model_of M.at self.old).mode }
+        requires running { is_over (model_of M.at self.old).committed ≡ false }
+        ensures image { image_of self.new ≡ image }
+        ensures model { model_of M.at self.new ≡ model_of M.at self.old }
+        ensures start { start_of M.at self.new ≡ start_of M.at self.old }
+        ensures slaves { slaves_of self.new ≡ slaves_of self.old }
+        ensures sequential { (model_of M.at self.new).committed ≡ seq (world_of M.at self.new) (model_of M.at self.new).position }
+    {
+        self.stage.image = image;
     }
 
     /// The machine at the committed position. Its state is that of the sequential run there.

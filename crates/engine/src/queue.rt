@@ -2,6 +2,7 @@
 ghost use Rattle.std.specs.Prelude.{◌≡◌, ◌≢◌, ℕ, ◌+◌, ◌-◌, ◌^◌, ◌<◌, ◌≤◌, Bool, false, Option, length, position, IfOk, OnOk, OnErr, IsNone, Some, slice_index_or};
 ghost use Rattle.cells.specs.declared.Cell.TheVariants.{Reg};
 ghost use Rattle.cells.specs.Cells.{value, from_cells};
+ghost use Rattle.cells.specs.Run.{printed};
 ghost use Rattle.speculation.specs.Engine.{told_end, told_task, dropped_by};
 ghost use Rattle.layers.specs.Layered.{laid};
 ghost use Rattle.seq_machine.specs.States.{state_of, did_of as step_told};
@@ -52,17 +53,21 @@ fn place_of(slaves: u8, oldest: u64, slave: u8) -> u64
     }
 }
 
-// Gives the machine a task's pc and what it wrote, and moves its position on by the task's steps.
+// Gives the machine a task's pc and what it wrote, appends its output, and moves the position on by the task's steps.
 fn lay<M: Memory>(alloc: Global, task: &Task<M>, machine: &mut Machine<M>) -> Result<(), AllocError>
     requires zero { (task_shown M.at task.now).seen.wrote (Reg 0) ≡ false }
     requires room { machine.old.position + task.now.steps < 2 ^ 64 }
     ensures ok { OnOk result (state_of M.at machine.new
-        ≡ record (state_of M.at machine.old) { arch = from_cells (laid task.now.pc (task_shown M.at task.now).seen (value (state_of M.at machine.old).arch)) }) }
+        ≡ record {
+          arch = from_cells (laid task.now.pc (task_shown M.at task.now).seen (value (state_of M.at machine.old).arch));
+          env = printed (state_of M.at machine.old).env (task_shown M.at task.now).output;
+        }) }
     ensures position { OnOk result (machine.new.position ≡ machine.old.position + task.now.steps) }
     ensures err { OnErr result (state_of M.at machine.new ≡ state_of M.at machine.old) }
     ensures stays { OnErr result (machine.new.position ≡ machine.old.position) }
 {
-    task.view().apply(alloc, task.pc(), &mut machine.arch)?;
+    task.view()
+        .apply(alloc, task.pc(), &mut machine.arch, &mut machine.out)?;
     machine.position += task.steps();
     Ok(())
 }

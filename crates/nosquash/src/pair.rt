@@ -2,6 +2,7 @@
 ghost use Rattle.engine.specs.Whole.{start_of, image_of, slaves_of, model_of};
 ghost use Rattle.fitting_laws.specs.Laws.{TracksRun};
 
+use dist_image::Image;
 use elf_reader::Program;
 use engine::{Effect, Engine, Event};
 use memory::Memory;
@@ -16,7 +17,7 @@ pub struct Pair<M: Memory> {
 }
 
 impl<M: Memory> Pair<M> {
-    ghost use Rattle.std.specs.Prelude.{◌≡◌, ℕ, ◌+◌, ◌-◌, ◌^◌, ◌<◌, ◌≤◌, ◌||◌, Bool, true, IfOk, OnErr};
+    ghost use Rattle.std.specs.Prelude.{◌≡◌, ℕ, ◌+◌, ◌-◌, ◌^◌, ◌<◌, ◌≤◌, ◌||◌, Bool, true, false, IfOk, OnErr};
     ghost use Rattle.cells.specs.Run.{is_over};
     ghost use Rattle.speculation.specs.declared.Mode.TheVariants as mode;
     ghost use Rattle.speculation.specs.World.{seq};
@@ -31,7 +32,8 @@ impl<M: Memory> Pair<M> {
     ghost use Rattle.assume_list.specs.declared.verdict.Verdict.{Verdict};
     ghost use Rattle.assume_list.specs.Verdicts.{IsVerdict};
     ghost use Rattle.nosquash.specs.Laws.{BreaksBefore};
-    ghost use Rattle.engine.specs.Shown.{MayTake};
+    ghost use Rattle.dist_image.specs.Image.{IsImage};
+    ghost use Rattle.engine.specs.Shown.{MayTake, IsSerial};
     ghost use Rattle.engine.specs.Whole.{world_of};
 
     /// A pair of an engine that has had no event, and whose run is that of the program with the
@@ -97,6 +99,22 @@ impl<M: Memory> Pair<M> {
             → IsVerdict start image budget v → BreaksBefore v far) }
     {
         self.engine.event(alloc, e)
+    }
+
+    /// Exchanges the engine's image. The run must not have ended, and nothing may be speculated on.
+    /// Takes no memory.
+    ///
+    /// From here on the promise of [`Pair::event`] speaks of this image.
+    pub fn set_image(&mut self, image: Image)
+        requires image { IsImage image }
+        requires serial { IsSerial (model_of M.at self.old.engine).mode }
+        requires running { is_over (model_of M.at self.old.engine).committed ≡ false }
+        ensures image { image_of self.new.engine ≡ image }
+        ensures model { model_of M.at self.new.engine ≡ model_of M.at self.old.engine }
+        ensures start { start_of M.at self.new.engine ≡ start_of M.at self.old.engine }
+        ensures slaves { slaves_of self.new.engine ≡ slaves_of self.old.engine }
+    {
+        self.engine.set_image(image);
     }
 
     /// The engine.
