@@ -19,7 +19,7 @@ pub in_one_word : (count from a : ℕ) → from < 2 ^ 32 → count ≤ 4 - from 
 in_one_word count from a small few h = in_word (word_of from) count from a (omega arith) (omega arith) (omega arith) (omega arith) h
 
 -- only an address modulo 2 ^ 32 counts
-places_modulo : (count a b : ℕ) → a % 2 ^ 32 ≡ b % 2 ^ 32 → places count a ≡ places count b
+pub places_modulo : (count a b : ℕ) → a % 2 ^ 32 ≡ b % 2 ^ 32 → places count a ≡ places count b
 unfolding places
 places_modulo zero a b e = refl
 places_modulo (suc count) a b e = ap (λ p. p ∷ places count (a + 1)) e ∙ ap (λ ps. b % 2 ^ 32 ∷ ps) (places_modulo count (a + 1) (b + 1) (omega arith))

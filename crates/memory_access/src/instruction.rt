@@ -4,14 +4,17 @@ ghost use Rattle.std.specs.Prelude.{◌≡◌, ◌<◌, ◌≤◌, ◌^◌};
 ghost use Rattle.cells.specs.Cells.{value};
 ghost use Rattle.rv_word.specs.Spelling.{IsWellFormed};
 ghost use Rattle.rv_run.specs.Values.{register_value};
-ghost use Rattle.rv_run.specs.Effect.{holds, load_size, store_size, is_store};
+ghost use Rattle.rv_run.specs.Effect.{holds, load_size, store_size, extended, is_store};
+ghost use Rattle.rv_run.specs.Prints.{is_task_call};
+ghost use Rattle.cells.specs.Bytes.{number};
 ghost use Rattle.seq_machine.specs.States.{arch_at, state_of};
-ghost use Rattle.profile_laws.specs.Profiles.{is_taken};
+ghost use Rattle.profile_laws.specs.Profiles.{is_taken, is_counted, with_mark};
 ghost use Rattle.profile_laws.specs.Tally.{loaded, taken_in, stored};
 ghost use Rattle.memory_access.specs.Spans.{span_of};
 
 use crate::span::Span;
 use memory::Memory;
+use rv_run::is_short_write;
 use rv_step::Arch;
 use rv_word::{Inst, LoadKind, StoreKind, Test};
 use seq_machine::Machine;
@@ -55,6 +58,28 @@ pub fn is_taken<M: Memory>(inst: Inst, arch: &Arch<M>) -> bool
     }
 }
 
+/// Whether the instruction is a call that a task does, where `prints` tells whether a task may print
+/// at the pc: then a short write is one.
+#[inline(always)]
+pub fn is_task_call<M: Memory>(prints: bool, inst: Inst, arch: &Arch<M>) -> bool
+    ensures { result ≡ is_task_call (with_mark prints) inst arch.now.pc (value (arch_at M.at arch.now)) }
+{
+    match inst {
+        Inst::Ecall => prints && is_short_write(arch.regs[17], arch.regs[10], arch.regs[12]),
+        _ => false,
+    }
+}
+
+/// Whether a profile counts the instruction as taken: it is a branch whose condition holds, or, where
+/// `prints` is set, a short write.
+#[inline(always)]
+pub fn is_counted<M: Memory>(prints: bool, inst: Inst, arch: &Arch<M>) -> bool
+    requires { IsWellFormed inst }
+    ensures { result ≡ is_counted (with_mark prints) inst (arch_at M.at arch.now) }
+{
+    is_taken(inst, arch) || is_task_call(prints, inst, arch)
+}
+
 /// Whether the instruction is a store.
 #[inline(always)]
 pub fn is_store(inst: Inst) -> bool
@@ -83,18 +108,37 @@ fn store_size(kind: StoreKind) -> u32
     }
 }
 
-/// The bytes that the instruction loads, beside those of its word, whatever its register is.
+/// The bytes that the instruction loads, beside those of its word, whatever its register is. Where
+/// `prints` is set, a short write reads the bytes that it shows, at most 256.
 #[inline(always)]
-pub fn loaded<M: Memory>(inst: Inst, arch: &Arch<M>) -> Span
+pub fn loaded<M: Memory>(prints: bool, inst: Inst, arch: &Arch<M>) -> Span
     requires { IsWellFormed inst }
-    ensures { span_of result ≡ loaded inst (arch_at M.at arch.now) }
+    ensures { span_of result ≡ loaded (with_mark prints) inst (arch_at M.at arch.now) }
 {
     match inst {
         Inst::Load { kind, rs1, off, .. } => Span {
             count: load_size(kind),
             from: register(arch, rs1).wrapping_add_signed(off),
         },
+        Inst::Ecall if is_task_call(prints, inst, arch) => Span {
+            count: arch.regs[12],
+            from: arch.regs[11],
+        },
         _ => Span::NOWHERE,
+    }
+}
+
+/// What a load of this kind loads from an address on, extended to 32 bits.
+#[inline(always)]
+pub fn number_at<M: Memory>(memory: &M, kind: LoadKind, a: u32) -> u32
+    ensures { result ≡ extended kind (number (load_size kind) a (M.at memory.now)) }
+{
+    match kind {
+        LoadKind::Lb => i32::from(memory.get(a).cast_signed()).cast_unsigned(),
+        LoadKind::Lbu => u32::from(memory.get(a)),
+        LoadKind::Lh => i32::from(memory.half(a).cast_signed()).cast_unsigned(),
+        LoadKind::Lhu => u32::from(memory.half(a)),
+        LoadKind::Lw => memory.word(a),
     }
 }
 

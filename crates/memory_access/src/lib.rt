@@ -8,6 +8,8 @@ mod instruction;
 mod shadow;
 mod span;
 
-pub use instruction::{is_store, is_taken, loaded, register, stored};
+pub use instruction::{
+    is_counted, is_store, is_taken, is_task_call, loaded, number_at, register, stored,
+};
 pub use shadow::Shadow;
 pub use span::Span;

@@ -1,6 +1,6 @@
 //! A mark for each byte of a guest's memory.
 
-ghost use Rattle.std.specs.Prelude.{◌≡◌, ℕ, ◌+◌, ◌-◌, ◌%◌, ◌^◌, ◌<◌, ◌≤◌, ◌==◌, if◌then◌else◌, true, false, IfOk, OnOk, OnErr, IfSome, is_some};
+ghost use Rattle.std.specs.Prelude.{◌≡◌, ℕ, ◌+◌, ◌-◌, ◌%◌, ◌^◌, ◌<◌, ◌≤◌, ◌==◌, if◌then◌else◌, true, false, IfOk, OnOk, OnErr, IfSome, None, is_some};
 ghost use Rattle.fitting.specs.Claims.{among};
 ghost use Rattle.profile_laws.specs.Tally.{places, bytes_in};
 ghost use Rattle.memory_access.specs.Spans.{span_of};
@@ -62,8 +62,9 @@ impl<M: Memory> Shadow<M> {
         })
     }
 
-    // The mark that a byte has of its own, which counts where its word has none.
-    fn own(&self, a: u32) -> u32
+    /// The mark that a byte has of its own, which counts where its word has none. Takes no memory.
+    #[inline(always)]
+    pub fn own(&self, a: u32) -> u32
         ensures { result ≡ own_at M.at self.now a }
     {
         let word = a - a % 4;
@@ -83,6 +84,20 @@ impl<M: Memory> Shadow<M> {
             APART => self.own(a),
             mark => mark,
         }
+    }
+
+    /// The mark of each byte of a span within one word, where the word has one; else each byte has its own. Takes no memory.
+    #[inline(always)]
+    pub fn of_word(&self, span: Span) -> Option<u32>
+        requires { span.from % 4 + span.count ≤ 4 }
+        ensures marks { IfSome result (λ mark. (a : ℕ) → among (bytes_in (span_of span)) a ≡ true → mark_at M.at self.now a ≡ mark) }
+        ensures own { result ≡ None → (a : ℕ) → among (bytes_in (span_of span)) a ≡ true → mark_at M.at self.now a ≡ own_at M.at self.now a }
+    {
+        let mark = mark_in(&self.whole, span.from - span.from % 4);
+        if mark == APART {
+            return None;
+        }
+        Some(mark)
     }
 
     // The mark that each byte of a span has of its own, if all of them have the same.

@@ -1,6 +1,8 @@
 -- The bytes that a step reads and writes are those that the tally takes it to load and to put.
 use Rattle.std.proofs.Common.{◌≡◌, ℕ, zero, suc, ◌+◌, ◌*◌, ◌/◌, ◌%◌, ◌^◌, ◌==◌, Bool, true, false, ◌&&◌, ◌||◌, not, cond, List, [], ◌∷◌, ◌++◌, length, take, Option, Some, None, is_some, refl, ap, ◌∙◌}
 use Rattle.std.specs.Prelude.{nat_eq}
+use Rattle.std.proofs.lemmas.Bool.{and_parts}
+use Rattle.std.proofs.lemmas.List.{append-nil}
 use Rattle.std.specs.List.{flat_map}
 use Rattle.std.specs.Int.{w32, to_le_bytes}
 use lib.Dec.{eqb}
@@ -17,11 +19,13 @@ use Rattle.cells.specs.Bytes.{byte_cells, byte_puts}
 use Rattle.cells.specs.Run.{State}
 use Rattle.cells.specs.Seen.{among as is_cell_of, puts_of, or_first}
 use Rattle.rv_run.specs.Values.{register_cell, register_puts}
-use Rattle.rv_run.specs.Effect.{Effect, effect_at, first, second, holds, load_count, load_from, store_size, sum32, jumped, branched, after}
-use Rattle.rv_run.specs.Machine.{machine, word_at, is_next}
+use Rattle.rv_run.specs.Effect.{Effect, effect_at, cells, first, second, holds, load_count, load_from, store_size, sum32, jumped, branched, after}
+use Rattle.rv_run.specs.Prints.{is_short_write, is_call, asks, arguments, task_cells}
+use Rattle.rv_run.proofs.Tasks.{is_call_is}
+use Rattle.rv_run.specs.Machine.{machine_in, word_at, is_next}
 use Rattle.rv_run.specs.Calls.{writes, stop_puts, call_puts, read_count}
 use Rattle.fitting.specs.Claims.{among}
-use Rattle.profile_laws.specs.Tally.{places, span, nowhere, bytes_in, loaded, taken_in, stored}
+use Rattle.profile_laws.specs.Tally.{places, span, no_bytes, bytes_in, loaded, taken_in, stored}
 
 pub cells_are_places : (k a b : ℕ) → is_cell_of (byte_cells k a) (Byte b) ≡ among (places k a) b
 unfolding places
@@ -37,12 +41,39 @@ no_register (r ∷ rs) cs b = go (r == 0) (no_register rs cs b)
     go true rest = rest
     go false rest = rest
 
-pub reads_are_loads : (s : Arch) (b : ℕ) → machine.reads s (Byte b) ≡ (among (places 4 s.pc) b || among (bytes_in (loaded (meaning (word_at s)) s)) b)
-reads_are_loads s b =
-    let i = meaning (word_at s) in
+abbrev own_loads : Inst → Arch → ℕ → Bool
+own_loads i s b = among (places (load_count i) (load_from i (first (sources i) (value s)))) b
+
+own_bytes : (i : Inst) (s : Arch) (b : ℕ) → is_cell_of (cells i (value s)) (Byte b) ≡ own_loads i s b
+own_bytes i s b =
     let f = load_from i (first (sources i) (value s)) in
-    ap (λ c. is_cell_of (byte_cells 4 s.pc) (Byte b) || c) (no_register (sources i) (byte_cells (load_count i) f) b ∙ cells_are_places (load_count i) f b)
-    ∙ ap (λ c. c || among (places (load_count i) f) b) (cells_are_places 4 s.pc b)
+    no_register (sources i) (byte_cells (load_count i) f) b ∙ cells_are_places (load_count i) f b
+
+-- beside what the instruction loads by itself, a call's bytes are shown
+task_bytes : (prints : ℕ → Bool) (i : Inst) (s : Arch) (b : ℕ) → is_cell_of (task_cells prints i s.pc (value s)) (Byte b) ≡ among (bytes_in (loaded prints i s)) b
+task_bytes prints i s b = by (asks prints i s.pc) refl
+  where
+    read_by : Bool → Bool → Bool
+    read_by a c = is_cell_of (cond a (arguments ++ cond c (byte_cells (s.regs 12) (s.regs 11)) []) [] ++ cells i (value s)) (Byte b)
+
+    told : Bool → Bool
+    told c = among (bytes_in (cond c (span (s.regs 12) (s.regs 11)) (span (load_count i) (load_from i (first (sources i) (value s)))))) b
+
+    shows : (c : Bool) → is_call i ≡ true → read_by true c ≡ told c
+    shows true call =
+        ap (λ j. is_cell_of (byte_cells (s.regs 12) (s.regs 11) ++ cells j (value s)) (Byte b)) (is_call_is i call)
+        ∙ ap (λ cs. is_cell_of cs (Byte b)) (append-nil (byte_cells (s.regs 12) (s.regs 11)))
+        ∙ cells_are_places (s.regs 12) (s.regs 11) b
+    shows false call = own_bytes i s b
+
+    by : (a : Bool) → asks prints i s.pc ≡ a → read_by a (is_short_write (value s)) ≡ told (a && is_short_write (value s))
+    by false e = own_bytes i s b
+    by true e = shows (is_short_write (value s)) (and_parts (prints s.pc) (is_call i) e).1
+
+pub reads_are_loads : (prints : ℕ → Bool) (s : Arch) (b : ℕ) → (machine_in prints).reads s (Byte b) ≡ (among (places 4 s.pc) b || among (bytes_in (loaded prints (meaning (word_at s)) s)) b)
+reads_are_loads prints s b =
+    ap (λ c. is_cell_of (byte_cells 4 s.pc) (Byte b) || c) (task_bytes prints (meaning (word_at s)) s b)
+    ∙ ap (λ c. c || among (bytes_in (loaded prints (meaning (word_at s)) s)) b) (cells_are_places 4 s.pc b)
 
 -- a register's put is no byte's
 no_register_put : (r v b : ℕ) → is_some (puts_of (register_puts r v) (Byte b)) ≡ false
@@ -91,7 +122,7 @@ module _ (s : State) (b : ℕ) where
   unfolding places
   call_puts_taken = go (nat_eq (s.arch.regs 17) 63 && nat_eq (s.arch.regs 10) 0)
     where
-      go : (t : Bool) → (t && is_cell_of (byte_cells (read_count s) (s.arch.regs 11)) (Byte b)) ≡ among (bytes_in (cond t (span (read_count s) (s.arch.regs 11)) nowhere)) b
+      go : (t : Bool) → (t && is_cell_of (byte_cells (read_count s) (s.arch.regs 11)) (Byte b)) ≡ among (bytes_in (cond t (span (read_count s) (s.arch.regs 11)) no_bytes)) b
       go true = cells_are_places (read_count s) (s.arch.regs 11) b
       go false = refl
 

@@ -16,19 +16,19 @@ no_marks : (writers : ℕ → ℕ) (p : ℕ) → ((a : ℕ) → is_mark (writers
 no_marks writers p none [] = refl
 no_marks writers p none (a ∷ ms) = or_from _ _ (none a) (no_marks writers p none ms)
 
-module _ (start : State) where
+module _ (prints : ℕ → Bool) (start : State) where
   abbrev pub writers_at : ℕ → ℕ → ℕ
-  writers_at k = (kept start k).writers
+  writers_at k = (kept prints start k).writers
 
   -- whether position k loads a byte of a store at this pc
   abbrev pub is_back : ℕ → ℕ → Bool
   is_back p k =
-      any_mark (writers_at k) (bytes_in (visit_at start k).loads) p || any_mark (writers_at k) (places 4 (pc_at start k)) p
+      any_mark (writers_at k) (bytes_in (visit_at prints start k).loads) p || any_mark (writers_at k) (places 4 (pc_at start k)) p
 
   -- the row of one pc after k positions
   unfoldable pub row : ℕ → ℕ → Tally
   row zero p = fresh p
-  row (suc k) p = at_one (pc_at start k) (counted (visit_at start k)) (λ q. flagged (is_back q k) (row k q)) p
+  row (suc k) p = at_one (pc_at start k) (counted (visit_at prints start k)) (λ q. flagged (is_back q k) (row k q)) p
 
   pub row_pc : (k p : ℕ) → (row k p).pc ≡ p
   unfolding row
@@ -38,7 +38,7 @@ module _ (start : State) where
       t : Tally
       t = flagged (is_back p k) (row k p)
 
-      go : (b : Bool) → t.pc ≡ p → (cond b (counted (visit_at start k) t) t).pc ≡ p
+      go : (b : Bool) → t.pc ≡ p → (cond b (counted (visit_at prints start k) t) t).pc ≡ p
       go true e = e
       go false e = e
 
@@ -54,9 +54,9 @@ module _ (start : State) where
   unseen (suc k) p none =
       let parts = or_parts (among (pcs start k) p) (nat_eq (pc_at start k) p) (sym (among_with_new (pcs start k) (pc_at start k) p) ∙ none) in
       let before = unseen k p parts.0 in
-      let back : is_back p k ≡ false = or_from _ _ (no_marks (writers_at k) p before.1 (bytes_in (visit_at start k).loads)) (no_marks (writers_at k) p before.1 (places 4 (pc_at start k))) in (
+      let back : is_back p k ≡ false = or_from _ _ (no_marks (writers_at k) p before.1 (bytes_in (visit_at prints start k).loads)) (no_marks (writers_at k) p before.1 (places 4 (pc_at start k))) in (
         cond-false (nat_eq (pc_at start k) p) _ _ parts.1 ∙ ap (λ b. flagged b (row k p)) back ∙ ap (flagged false) before.0,
-        λ a. go (among (bytes_in (visit_at start k).puts) a) (is_store (fetched_at start k)) a parts.1 (before.1 a),
+        λ a. go (among (bytes_in (visit_at prints start k).puts) a) (is_store (fetched_at start k)) a parts.1 (before.1 a),
       )
     where
       go : (b c : Bool) (a : ℕ) → nat_eq (pc_at start k) p ≡ false → is_mark (writers_at k a) p ≡ false → is_mark (cond b (cond c (pc_at start k + 1) 0) (writers_at k a)) p ≡ false
@@ -67,18 +67,18 @@ module _ (start : State) where
       go true false a other none = refl
       go false c a other none = none
 
-  pub rows_map : (k : ℕ) → (kept start k).rows ≡ map (row k) (pcs start k)
+  pub rows_map : (k : ℕ) → (kept prints start k).rows ≡ map (row k) (pcs start k)
   unfolding row pcs kept
   rows_map zero = refl
   rows_map (suc k) =
-      let v = visit_at start k in
+      let v = visit_at prints start k in
       let ps = pcs start k in
       let w = writers_at k in
       let front = places 4 (pc_at start k) in
       let back = bytes_in v.loads in
       let f : ℕ → Tally = λ p. flagged (any_mark w back p) (flagged (any_mark w front p) (row k p)) in
       let g : ℕ → Tally = λ p. flagged (is_back p k) (row k p) in
-      let read : read_back w back (read_back w front (kept start k).rows) ≡ map f ps =
+      let read : read_back w back (read_back w front (kept prints start k).rows) ≡ map f ps =
       ap (λ rows. read_back w back (read_back w front rows)) (rows_map k)
       ∙ ap (read_back w back) (read_back_map w front (row k) (row_pc k) ps (pcs_apart k))
       ∙ read_back_map w back (λ p. flagged (any_mark w front p) (row k p)) (row_pc k) ps (pcs_apart k) in

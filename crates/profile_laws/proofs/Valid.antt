@@ -11,7 +11,7 @@ use Rattle.cells.specs.Run.{State}
 use Rattle.profile_data.specs.Profile.{Tally, pc_of, executed_of, target_count, IsTally, IsProfile}
 use Rattle.fitting.specs.Claims.{among}
 use Rattle.fitting.specs.Fails.{pc_at, arch_at, fetched_at}
-use Rattle.profile_laws.specs.Profiles.{count_below, is_at, with_new, pcs, executed, is_taken, IsWide}
+use Rattle.profile_laws.specs.Profiles.{count_below, is_at, with_new, pcs, executed, is_counted, IsWide}
 use Rattle.profile_laws.specs.Tally.{kept, with_target, placed, visit_at, profile_of}
 use Rattle.profile_laws.proofs.Listed.{AreApart, swapped, among_with_new}
 use Rattle.profile_laws.proofs.Kept.{row, row_pc, pcs_apart, unseen, rows_map}
@@ -70,13 +70,13 @@ sum_map g f (p ∷ ps) =
 sum_same : (f g : ℕ → ℕ) → ((p : ℕ) → f p ≡ g p) → (ps : List ℕ) → sum_by f ps ≡ sum_by g ps
 sum_same f g same ps = ap (λ (h : ℕ → ℕ). sum_by h ps) (λ i p. same p i)
 
-module _ (start : State) where
+module _ (prints : ℕ → Bool) (start : State) where
   sum_next : (k : ℕ) (ps : List ℕ) → sum_by (executed start (suc k)) ps ≡ sum_by (λ p. executed start k p + cond (nat_eq (pc_at start k) p) 1 0) ps
   unfolding count_below
   sum_next k ps = refl
 
   never_executed : (k p : ℕ) → among (pcs start k) p ≡ false → executed start k p ≡ 0
-  never_executed k p none = sym (executed_is start p k) ∙ ap executed_of (unseen start k p none).0
+  never_executed k p none = sym (executed_is prints start p k) ∙ ap executed_of (unseen prints start k p none).0
 
   sum_with_new : (k : ℕ) → sum_by (executed start k) (with_new (pc_at start k) (pcs start k)) ≡ sum_by (executed start k) (pcs start k)
   sum_with_new k = go (among (pcs start k) (pc_at start k)) refl
@@ -100,7 +100,7 @@ module _ (start : State) where
   sum_executed zero = refl
   sum_executed (suc k) =
       sum_next k (pcs start (suc k))
-      ∙ sum_one (executed start k) (pc_at start k) (pcs start (suc k)) (pcs_apart start (suc k)) (there_now k)
+      ∙ sum_one (executed start k) (pc_at start k) (pcs start (suc k)) (pcs_apart prints start (suc k)) (there_now k)
       ∙ ap suc (sum_with_new k ∙ sum_executed k)
 
 -- ---- each row is valid
@@ -120,7 +120,7 @@ each_among P (m ∷ ms) h =
     All-cons P m ms (h m (or_left (nat_eq m m) (among ms m) (eq-eqb m m refl)))
     (each_among P ms (λ q there. h q (or_right (nat_eq m q) (among ms q) there)))
 
-module _ (start : State) where
+module _ (prints : ℕ → Bool) (start : State) where
   -- a pc of the list stood at a position before n
   stood : (n p : ℕ) → among (pcs start n) p ≡ true → (i : ℕ) × (i < n) × (pc_at start i ≡ p)
   unfolding pcs
@@ -138,21 +138,21 @@ module _ (start : State) where
       (λ (e : nat_eq (pc_at start n) p ≡ true). let s = ap (λ b. executed start n p + cond b 1 0) e in omega arith)
       (or_cases (among (pcs start n) p) (nat_eq (pc_at start n) p) (sym (among_with_new (pcs start n) (pc_at start n) p) ∙ there))
 
-  row_is_valid : (n p : ℕ) → ((i : ℕ) → i ≤ n → IsPc (pc_at start i)) → among (pcs start n) p ≡ true → IsTally (row start n p)
+  row_is_valid : (n p : ℕ) → ((i : ℕ) → i ≤ n → IsPc (pc_at start i)) → among (pcs start n) p ≡ true → IsTally (row prints start n p)
   row_is_valid n p at there =
-      let r = row_is start n p in
-      let e = row_pc start n p in
+      let r = row_is prints start n p in
+      let e = row_pc prints start n p in
       let s = stood n p there in
       let some = was_executed n p there in
-      let is = executed_is start p n in
-      let few = count_both (is_at start (row start n p).pc) (λ i. is_taken (fetched_at start i) (arch_at start i)) n in
+      let is = executed_is prints start p n in
+      let few = count_both (is_at start (row prints start n p).pc) (λ i. is_counted prints (fetched_at start i) (arch_at start i)) n in
       let all = r.executed in
       let ones = r.taken in
       record {
         pc = subst IsPc (sym e) (subst IsPc s.2 (at s.0 (omega (arith, s.1))));
         executed = omega arith;
         taken = omega arith;
-        targets = each_among IsPc (row start n p).targets (λ to h. let g = (r.targets to).0 h in subst IsPc g.5 (at (suc g.0) (omega (arith, g.1))));
+        targets = each_among IsPc (row prints start n p).targets (λ to h. let g = (r.targets to).0 h in subst IsPc g.5 (at (suc g.0) (omega (arith, g.1))));
         targets_rise = r.targets_rise;
       }
 
@@ -183,13 +183,13 @@ longer (Some n) ms = longer_placed n ms
 abbrev targets_of : Tally → ℕ
 targets_of t = length t.targets
 
-module _ (start : State) where
-  more_targets : (k p : ℕ) → targets_of (row start k p) ≤ targets_of (row start (suc k) p)
+module _ (prints : ℕ → Bool) (start : State) where
+  more_targets : (k p : ℕ) → targets_of (row prints start k p) ≤ targets_of (row prints start (suc k) p)
   unfolding row
   more_targets k p = go (nat_eq (pc_at start k) p)
     where
-      go : (b : Bool) → targets_of (row start k p) ≤ targets_of (next_row start p k b)
-      go true = longer (visit_at start k).target (row start k p).targets
+      go : (b : Bool) → targets_of (row prints start k p) ≤ targets_of (next_row prints start p k b)
+      go true = longer (visit_at prints start k).target (row prints start k p).targets
       go false = omega arith
 
   more_pcs : (f : ℕ → ℕ) (k : ℕ) → sum_by f (pcs start k) ≤ sum_by f (pcs start (suc k))
@@ -201,17 +201,17 @@ module _ (start : State) where
       go false = let a = sum_by_push f (pcs start k) (pc_at start k) in omega arith
 
   abbrev rows_at : ℕ → List Tally
-  rows_at k = (kept start k).rows
+  rows_at k = (kept prints start k).rows
 
-  counted_by : (g : Tally → ℕ) (k : ℕ) → sum_by g (rows_at k) ≡ sum_by (λ p. g (row start k p)) (pcs start k)
-  counted_by g k = ap (sum_by g) (rows_map start k) ∙ sum_map g (row start k) (pcs start k)
+  counted_by : (g : Tally → ℕ) (k : ℕ) → sum_by g (rows_at k) ≡ sum_by (λ p. g (row prints start k p)) (pcs start k)
+  counted_by g k = ap (sum_by g) (rows_map prints start k) ∙ sum_map g (row prints start k) (pcs start k)
 
   more_in_all : (k : ℕ) → target_count (rows_at k) ≤ target_count (rows_at (suc k))
   more_in_all k =
       let a = counted_by targets_of k in
       let b = counted_by targets_of (suc k) in
-      let c = fewer (λ p. targets_of (row start k p)) (λ p. targets_of (row start (suc k) p)) (more_targets k) (pcs start k) in
-      let d = more_pcs (λ p. targets_of (row start (suc k) p)) k in
+      let c = fewer (λ p. targets_of (row prints start k p)) (λ p. targets_of (row prints start (suc k) p)) (more_targets k) (pcs start k) in
+      let d = more_pcs (λ p. targets_of (row prints start (suc k) p)) k in
       omega arith
 
   length_map : (f : ℕ → Tally) (ps : List ℕ) → length (map f ps) ≡ length ps
@@ -221,10 +221,10 @@ module _ (start : State) where
   more_rows : (k : ℕ) → length (rows_at k) ≤ length (rows_at (suc k))
   unfolding pcs
   more_rows k =
-      let a = ap length (rows_map start k) in
-      let b = ap length (rows_map start (suc k)) in
-      let c = length_map (row start k) (pcs start k) in
-      let d = length_map (row start (suc k)) (pcs start (suc k)) in
+      let a = ap length (rows_map prints start k) in
+      let b = ap length (rows_map prints start (suc k)) in
+      let c = length_map (row prints start k) (pcs start k) in
+      let d = length_map (row prints start (suc k)) (pcs start (suc k)) in
       let e = go (among (pcs start k) (pc_at start k)) in
       omega arith
     where
@@ -243,14 +243,14 @@ module _ (start : State) where
       (λ (ne : k ≡ suc n → ⊥). wide_next n (wide_stays k n (omega arith) h))
       (cases_eq k (suc n))
 
-  pub tally_is_valid : (n : ℕ) → n < 2 ^ 64 → ((i : ℕ) → i ≤ n → IsPc (pc_at start i)) → (IsWide (rows_at n) → ⊥) → IsProfile (profile_of start n)
+  pub tally_is_valid : (n : ℕ) → n < 2 ^ 64 → ((i : ℕ) → i ≤ n → IsPc (pc_at start i)) → (IsWide (rows_at n) → ⊥) → IsProfile (profile_of prints start n)
   tally_is_valid n small at narrow = record {
     steps = small;
     few_rows = few (λ h. narrow (inl h));
     few_targets = few_in_all (λ h. narrow (inr h));
-    rows = subst (All IsTally) (sym (rows_map start n)) (each_row IsTally (row start n) (pcs start n) (λ p there. row_is_valid start n p at there));
-    distinct = subst (IsDistinct nat_eq) (sym (ap (map pc_of) (rows_map start n) ∙ pcs_of_rows start n (pcs start n))) (apart_distinct (pcs start n) (pcs_apart start n));
-    sum = counted_by executed_of n ∙ sum_same (λ p. executed_of (row start n p)) (executed start n) (λ p. executed_is start p n) (pcs start n) ∙ sum_executed start n;
+    rows = subst (All IsTally) (sym (rows_map prints start n)) (each_row IsTally (row prints start n) (pcs start n) (λ p there. row_is_valid prints start n p at there));
+    distinct = subst (IsDistinct nat_eq) (sym (ap (map pc_of) (rows_map prints start n) ∙ pcs_of_rows prints start n (pcs start n))) (apart_distinct (pcs start n) (pcs_apart prints start n));
+    sum = counted_by executed_of n ∙ sum_same (λ p. executed_of (row prints start n p)) (executed start n) (λ p. executed_is prints start p n) (pcs start n) ∙ sum_executed prints start n;
   }
     where
       few : (524_288 < length (rows_at n) → ⊥) → length (rows_at n) ≤ 524_288

@@ -1,5 +1,5 @@
 -- What the tally of a run comes to.
-use Rattle.std.specs.Prelude.{◌≡◌, ℕ, ◌<◌, ◌≤◌, ◌^◌, false, true}
+use Rattle.std.specs.Prelude.{◌≡◌, ℕ, Bool, ◌<◌, ◌≤◌, ◌^◌, false, true}
 use Rattle.cells.specs.Cells.{IsPc}
 use Rattle.cells.specs.Run.{State, is_over}
 use Rattle.profile_data.specs.Profile.{Profiled, IsProfile}
@@ -9,19 +9,19 @@ use Rattle.profile_laws.specs.Tally.{kept, profile_of}
 
 -- it is the profile of the run, and nothing else is
 abbrev pub TallyIsProfile : Type 0
-TallyIsProfile = (start : State) (n : ℕ) → IsProfileOf start n (profile_of start n)
+TallyIsProfile = (prints : ℕ → Bool) (start : State) (n : ℕ) → IsProfileOf prints start n (profile_of prints start n)
 
 abbrev pub ProfileIsOne : Type 0
-ProfileIsOne = (start : State) (n : ℕ) (p q : Profiled) → IsProfileOf start n p → IsProfileOf start n q → p ≡ q
+ProfileIsOne = (prints : ℕ → Bool) (start : State) (n : ℕ) (p q : Profiled) → IsProfileOf prints start n p → IsProfileOf prints start n q → p ≡ q
 
 -- a profile can hold it, unless it is too wide
 abbrev pub TallyIsValid : Type 0
 TallyIsValid =
-    (start : State) (n : ℕ) → n < 2 ^ 64 → ((i : ℕ) → i ≤ n → IsPc (pc_at start i)) → (IsWide (kept start n).rows → ⊥) → IsProfile (profile_of start n)
+    (prints : ℕ → Bool) (start : State) (n : ℕ) → n < 2 ^ 64 → ((i : ℕ) → i ≤ n → IsPc (pc_at start i)) → (IsWide (kept prints start n).rows → ⊥) → IsProfile (profile_of prints start n)
 
 -- what is too wide stays so
 abbrev pub WideStays : Type 0
-WideStays = (start : State) (k n : ℕ) → k ≤ n → IsWide (kept start k).rows → IsWide (kept start n).rows
+WideStays = (prints : ℕ → Bool) (start : State) (k n : ℕ) → k ≤ n → IsWide (kept prints start k).rows → IsWide (kept prints start n).rows
 
 -- the run takes n steps of a budget: it has not ended before n, and either n is the budget or it has ended then
 pub record StepsAreTaken : Type 0 where

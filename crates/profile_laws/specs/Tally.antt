@@ -7,12 +7,13 @@ use Rattle.rv_word.specs.Masks.{sources}
 use Rattle.cells.specs.Cells.{Arch, value}
 use Rattle.cells.specs.Run.{State, is_over}
 use Rattle.rv_run.specs.Effect.{first, load_count, load_from, store_size, sum32, is_store}
+use Rattle.rv_run.specs.Prints.{is_task_call}
 use Rattle.rv_run.specs.Machine.{machine, word_at}
 use Rattle.rv_run.specs.Calls.{read_count}
 use Rattle.profile_data.specs.Profile.{Tally, Profiled, row_at}
 use Rattle.fitting.specs.Claims.{among}
 use Rattle.fitting.specs.Fails.{program, state_at, pc_at}
-use Rattle.profile_laws.specs.Profiles.{is_taken}
+use Rattle.profile_laws.specs.Profiles.{is_counted}
 
 -- ---- what a position does
 
@@ -29,25 +30,26 @@ pub record Span : Type 0 where
 abbrev pub span : ℕ → ℕ → Span
 span count from = record { count = count; from = from }
 
-abbrev pub nowhere : Span
-nowhere = span 0 0
+abbrev pub no_bytes : Span
+no_bytes = span 0 0
 
 abbrev pub bytes_in : Span → List ℕ
 bytes_in s = places s.count s.from
 
--- the bytes that an instruction loads, beside those of its word
-abbrev pub loaded : Inst → Arch → Span
-loaded i s = span (load_count i) (load_from i (first (sources i) (value s)))
+-- the bytes that a step of a task loads or shows, beside those of its word, where it may print at these pcs: no instruction
+-- does both
+abbrev pub loaded : (ℕ → Bool) → Inst → Arch → Span
+loaded prints i s = if is_task_call prints i s.pc (value s) then span (s.regs 12) (s.regs 11) else span (load_count i) (load_from i (first (sources i) (value s)))
 
 -- the bytes that a call puts: those that a read takes
 abbrev pub taken_in : State → Span
-taken_in s = if nat_eq (s.arch.regs 17) 63 && nat_eq (s.arch.regs 10) 0 then span (read_count s) (s.arch.regs 11) else nowhere
+taken_in s = if nat_eq (s.arch.regs 17) 63 && nat_eq (s.arch.regs 10) 0 then span (read_count s) (s.arch.regs 11) else no_bytes
 
 -- the bytes that an instruction or a call puts
 abbrev pub stored : Inst → State → Span
 stored (Store kind rs1 rs2 off) s = span (store_size kind) (sum32 (first (sources (Store kind rs1 rs2 off)) (value s.arch)) off)
 stored Ecall s = taken_in s
-stored _ s = nowhere
+stored _ s = no_bytes
 
 abbrev pub is_register_jump : Inst → Bool
 is_register_jump (Jalr rd rs1 off) = true
@@ -63,16 +65,16 @@ pub record Visit : Type 0 where
   pub puts : Span
   pub claim : ℕ
 
--- of the position of a state, where `word` is the program's word at its pc, and the next position is at `next`
-abbrev pub visit : ℕ → State → ℕ → Visit
-visit word s next =
+-- where short writes may print at these pcs, of the position of a state, where `word` is the program's word at its pc, and the next position is at `next`
+abbrev pub visit : (ℕ → Bool) → ℕ → State → ℕ → Visit
+visit prints word s next =
     let i = meaning (word_at s.arch) in
     record {
       pc = s.arch.pc;
-      taken = is_taken i s.arch;
+      taken = is_counted prints i s.arch;
       changed = not (nat_eq (word_at s.arch) word);
       target = if is_register_jump i && not (machine.stops s.arch) then Some next else None;
-      loads = loaded i s.arch;
+      loads = loaded prints i s.arch;
       puts = stored i s;
       claim = if is_store i then s.arch.pc + 1 else 0;
     }
@@ -143,9 +145,9 @@ writers_after v writers a = if among (bytes_in v.puts) a then v.claim else write
 abbrev pub after_visit : Visit → Kept → Kept
 after_visit v k = record { rows = rows_after v k; writers = writers_after v k.writers }
 
-module _ (start : State) where
+module _ (prints : ℕ → Bool) (start : State) where
   abbrev pub visit_at : ℕ → Visit
-  visit_at k = visit (program start (pc_at start k)) (state_at start k) (pc_at start (suc k))
+  visit_at k = visit prints (program start (pc_at start k)) (state_at start k) (pc_at start (suc k))
 
   unfoldable pub kept : ℕ → Kept
   kept zero = nothing_kept

@@ -23,29 +23,29 @@ same_profile a b c d xs ys e f g = λ i. record { steps = e i; ended = f i; rows
 
 -- ---- the profile of what was counted
 
-module _ {M : Type 0} {d : Ghosts M} (at : M → ℕ → ℕ) (start : State) (n : ℕ) (m : Machine M d) (t : CodeTally M) (counted : IsCounted at start n m t) where
+module _ {M : Type 0} {d : Ghosts M} (at : M → ℕ → ℕ) (prints : ℕ → Bool) (start : State) (n : ℕ) (m : Machine M d) (t : CodeTally M) (counted : IsCounted at prints start n m t) where
   abbrev pub made : Profiled
   made = profiled m.position (is_end m.end) t.table.rows
 
-  made_is : profile_of start n ≡ made
+  made_is : profile_of prints start n ≡ made
   made_is =
-      same_profile n m.position (is_over (state_at start n)) (is_end m.end) (kept start n).rows (values t.table.rows)
+      same_profile n m.position (is_over (state_at start n)) (is_end m.end) (kept prints start n).rows (values t.table.rows)
       (sym counted.position) (sym (ap is_over counted.state)) (sym (ap (λ (x : Kept). x.rows) counted.rows))
 
-  narrow : IsWide (kept start n).rows → ⊥
+  narrow : IsWide (kept prints start n).rows → ⊥
   narrow h = counted.tallied.few (subst IsWide (ap (λ (x : Kept). x.rows) (sym counted.rows)) h)
 
   pub made_is_valid : n < 2 ^ 64 → IsProfile made
-  made_is_valid small = subst IsProfile made_is (tally_is_valid start n small counted.pcs narrow)
+  made_is_valid small = subst IsProfile made_is (tally_is_valid prints start n small counted.pcs narrow)
 
-  pub made_is_profile : (begin : State) → start ≡ begin → IsProfileOf begin n made
-  made_is_profile begin e = subst (λ s. IsProfileOf s n made) e (subst (IsProfileOf start n) made_is (tally_is_profile start n))
+  pub made_is_profile : (begin : State) → start ≡ begin → IsProfileOf prints begin n made
+  made_is_profile begin e = subst (λ s. IsProfileOf prints s n made) e (subst (IsProfileOf prints start n) made_is (tally_is_profile prints start n))
 
-pub wide_profile : (start begin : State) (budget : ℕ) → start ≡ begin → IsWide (kept start (steps start budget)).rows
-    → (f : Profiled) → IsProfileOf begin (steps begin budget) f → IsWide f.rows
-wide_profile start begin budget e wide f is =
-    subst (λ (p : Profiled). IsWide p.rows) (profile_is_one begin (steps begin budget) (profile_of begin (steps begin budget)) f (tally_is_profile begin (steps begin budget)) is)
-    (subst (λ s. IsWide (kept s (steps s budget)).rows) e wide)
+pub wide_profile : (prints : ℕ → Bool) (start begin : State) (budget : ℕ) → start ≡ begin → IsWide (kept prints start (steps start budget)).rows
+    → (f : Profiled) → IsProfileOf prints begin (steps begin budget) f → IsWide f.rows
+wide_profile prints start begin budget e wide f is =
+    subst (λ (p : Profiled). IsWide p.rows) (profile_is_one prints begin (steps begin budget) (profile_of prints begin (steps begin budget)) f (tally_is_profile prints begin (steps begin budget)) is)
+    (subst (λ s. IsWide (kept prints s (steps s budget)).rows) e wide)
 
 pub steps_small : (start : State) (budget : ℕ) → budget ≤ 10 ^ 12 → steps start budget < 2 ^ 64
 steps_small start budget le = let h = count_at_most (λ i. not (is_over (state_at start i))) budget in omega arith

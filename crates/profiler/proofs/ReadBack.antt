@@ -1,14 +1,16 @@
 -- Bytes that are read back one after another.
-use Rattle.std.proofs.Common.{◌≡◌, ℕ, zero, suc, ◌+◌, ◌-◌, ◌%◌, ◌^◌, ◌<◌, ◌≤◌, ◌==◌, Bool, true, false, ◌||◌, cond, All, inl, inr, List, [], ◌∷◌, length, refl, sym, ap, ◌∙◌, subst, arith}
+use Rattle.std.proofs.Common.{◌≡◌, ℕ, zero, suc, ◌+◌, ◌-◌, ◌%◌, ◌^◌, ◌<◌, ◌≤◌, ◌==◌, Bool, true, false, ◌||◌, cond, All, inl, inr, List, [], ◌∷◌, length, set, get_or, refl, sym, ap, ◌∙◌, subst, arith}
 use Rattle.std.specs.Prelude.{nat_eq}
 use Rattle.std.proofs.lemmas.Bool.{eq-eqb, or_left, or_right}
-use Rattle.std.proofs.lemmas.List.Elements.{All-head, All-tail, All-cons}
+use Rattle.std.proofs.lemmas.List.Elements.{All-head, All-tail, All-nil, All-cons, All-set, All-get_or}
 use Rattle.std.proofs.lemmas.List.Sums.{sum_by-cons}
 use Rattle.profile_data.specs.Profile.{Tally, target_count}
 use Rattle.fitting.specs.Claims.{among}
 use Rattle.profile_laws.specs.Profiles.{IsWide}
 use Rattle.profile_laws.specs.Tally.{places, read_back, marked, updated, as_read, Kept}
+use Rattle.memory_access.proofs.Places.{places_modulo}
 use Rattle.profiler.specs.Rows.{HasRoom}
+use Rattle.profiler.specs.Noted.{AreNoted}
 
 places_next : (n a : ℕ) → places (suc n) a ≡ a % 2 ^ 32 ∷ places n (a + 1)
 unfolding places
@@ -124,6 +126,65 @@ marked_again (suc pc) ts = again ts
             → updated pc as_read (cond b (as_read t ∷ ts) (t ∷ updated pc as_read ts)) ≡ cond b (as_read t ∷ ts) (t ∷ updated pc as_read ts)
         go true e rest = ap (λ c. cond c (as_read (as_read t) ∷ ts) (as_read t ∷ updated pc as_read ts)) e
         go false e rest = ap (λ c. cond c (as_read t ∷ updated pc as_read ts) (t ∷ updated pc as_read (updated pc as_read ts))) e ∙ ap (λ us. t ∷ us) rest
+
+-- marks are noted in any order
+swapped : (p q : ℕ) (ts : List Tally) → updated p as_read (updated q as_read ts) ≡ updated q as_read (updated p as_read ts)
+swapped p q [] = refl
+swapped p q (t ∷ ts) = go (t.pc == p) (t.pc == q) refl refl (swapped p q ts)
+  where
+    go : (x y : Bool) → (t.pc == p) ≡ x → (t.pc == q) ≡ y → updated p as_read (updated q as_read ts) ≡ updated q as_read (updated p as_read ts)
+        → updated p as_read (cond y (as_read t ∷ ts) (t ∷ updated q as_read ts)) ≡ updated q as_read (cond x (as_read t ∷ ts) (t ∷ updated p as_read ts))
+    go true true e f rest =
+        ap (λ c. cond c (as_read (as_read t) ∷ ts) (as_read t ∷ updated p as_read ts)) e
+        ∙ sym (ap (λ c. cond c (as_read (as_read t) ∷ ts) (as_read t ∷ updated q as_read ts)) f)
+    go true false e f rest =
+        ap (λ c. cond c (as_read t ∷ updated q as_read ts) (t ∷ updated p as_read (updated q as_read ts))) e
+        ∙ sym (ap (λ c. cond c (as_read (as_read t) ∷ ts) (as_read t ∷ updated q as_read ts)) f)
+    go false true e f rest =
+        ap (λ c. cond c (as_read (as_read t) ∷ ts) (as_read t ∷ updated p as_read ts)) e
+        ∙ sym (ap (λ c. cond c (as_read t ∷ updated p as_read ts) (t ∷ updated q as_read (updated p as_read ts))) f)
+    go false false e f rest =
+        ap (λ c. cond c (as_read t ∷ updated q as_read ts) (t ∷ updated p as_read (updated q as_read ts))) e
+        ∙ ap (λ us. t ∷ us) rest
+        ∙ sym (ap (λ c. cond c (as_read t ∷ updated p as_read ts) (t ∷ updated q as_read (updated p as_read ts))) f)
+
+marked_swapped : (v w : ℕ) (ts : List Tally) → marked v (marked w ts) ≡ marked w (marked v ts)
+marked_swapped zero w ts = refl
+marked_swapped (suc p) zero ts = refl
+marked_swapped (suc p) (suc q) ts = swapped p q ts
+
+-- what was noted stays so, and so is what is noted now
+pub noted_stay : (marks : List ℕ) (w : ℕ) (ts : List Tally) → AreNoted marks ts → AreNoted marks (marked w ts)
+noted_stay [] w ts all = All-nil (λ v. marked v (marked w ts) ≡ marked w ts)
+noted_stay (v ∷ marks) w ts all =
+    All-cons (λ v. marked v (marked w ts) ≡ marked w ts) v marks
+    (marked_swapped v w ts ∙ ap (marked w) (All-head (λ v. marked v ts ≡ ts) v marks all))
+    (noted_stay marks w ts (All-tail (λ v. marked v ts ≡ ts) v marks all))
+
+pub noted_too : (marks : List ℕ) (place w : ℕ) (ts : List Tally) → AreNoted marks ts → AreNoted (set marks place w) (marked w ts)
+noted_too marks place w ts all = All-set (λ v. marked v (marked w ts) ≡ marked w ts) marks place w (marked_again w ts) (noted_stay marks w ts all)
+
+pub noted_at : (marks : List ℕ) (place w d : ℕ) (ts : List Tally) → AreNoted marks ts → place < length marks → get_or marks place d ≡ w → ts ≡ marked w ts
+noted_at marks place w d ts all within is = sym (subst (λ v. marked v ts ≡ ts) is (All-get_or (λ v. marked v ts ≡ ts) marks place d within all))
+
+-- bytes are read first ones first
+read_split : (w : ℕ → ℕ) (first count from : ℕ) (ts : List Tally) → read_back w (places (first + count) from) ts ≡ read_back w (places count (from + first)) (read_back w (places first from) ts)
+unfolding places
+read_split w zero count from ts =
+    ap (λ n. read_back w (places n from) ts) (let e : 0 + count ≡ count = omega arith in e)
+    ∙ ap (λ a. read_back w (places count a) ts) (let e : from ≡ from + 0 = omega arith in e)
+read_split w (suc first) count from ts =
+    ap (λ n. read_back w (places n from) ts) (let e : suc first + count ≡ suc (first + count) = omega arith in e)
+    ∙ read_split w first count (from + 1) (marked (w (from % 2 ^ 32)) ts)
+    ∙ ap (λ a. read_back w (places count a) (read_back w (places first (from + 1)) (marked (w (from % 2 ^ 32)) ts))) (let e : from + 1 + first ≡ from + suc first = omega arith in e)
+
+pub read_first : (w : ℕ → ℕ) (first count from next : ℕ) (ts us : List Tally) → first ≤ count → next ≡ (from + first) % 2 ^ 32 → us ≡ read_back w (places first from) ts
+    → read_back w (places (count - first) next) us ≡ read_back w (places count from) ts
+read_first w first count from next ts us le next_is is =
+    ap (read_back w (places (count - first) next)) is
+    ∙ ap (λ ms. read_back w ms (read_back w (places first from) ts)) (places_modulo (count - first) next (from + first) (omega arith))
+    ∙ sym (read_split w first (count - first) from ts)
+    ∙ ap (λ n. read_back w (places n from) ts) (let e : first + (count - first) ≡ count = omega arith in e)
 
 -- bytes that all have one mark, of which there are some
 pub all_alike : (w : ℕ → ℕ) (mark n a : ℕ) (ts : List Tally) → 0 < n → ((b : ℕ) → among (places n a) b ≡ true → w b ≡ mark) → marked mark ts ≡ read_back w (places n a) ts

@@ -7,6 +7,7 @@
 
 mod error;
 mod profiling;
+mod reading;
 mod rows;
 mod table;
 mod tally;

@@ -9,7 +9,7 @@ ghost use Rattle.elf_reader.specs.Executable.{IsProgram};
 ghost use Rattle.seq_machine.specs.States.{state_of};
 ghost use Rattle.seq_machine.specs.Parts.{start_of};
 ghost use Rattle.profile_data.specs.Profile.{Profiled};
-ghost use Rattle.profile_laws.specs.Profiles.{steps, IsProfileOf, IsWide};
+ghost use Rattle.profile_laws.specs.Profiles.{steps, with_mark, IsProfileOf, IsWide};
 ghost use Rattle.profile_laws.specs.Tally.{visit, kept, nothing_kept, after_visit, rows_after};
 ghost use Rattle.profiler.specs.declared.error.ProfilingErr.TheVariants.{Wide};
 ghost use Rattle.profiler.specs.Visits.{target_after};
@@ -41,6 +41,7 @@ fn step<M: Memory>(
     machine: &mut Machine<M>,
     program: &mut M,
     tally: &mut Tally<M>,
+    calls: bool,
 ) -> Result<(), ProfilingErr>
     requires running { IsNone machine.old.end }
     requires position { machine.old.position < 2 ^ 64 - 1 }
@@ -52,11 +53,11 @@ fn step<M: Memory>(
     ensures pc { OnOk result (IsPc machine.new.arch.pc) }
     ensures tally { OnOk result (IsTally tally.new) }
     ensures kept { OnOk result (kept_of M.at tally.new
-        ≡ after_visit (visit (word_of (M.at program.old) machine.old.arch.pc) (state_of M.at machine.old) (next_state (state_of M.at machine.old)).arch.pc) (kept_of M.at tally.old)) }
+        ≡ after_visit (visit (with_mark calls) (word_of (M.at program.old) machine.old.arch.pc) (state_of M.at machine.old) (next_state (state_of M.at machine.old)).arch.pc) (kept_of M.at tally.old)) }
     ensures wide { IfErr result (λ e. e ≡ Wide → IsWide
-        (rows_after (visit (word_of (M.at program.old) machine.old.arch.pc) (state_of M.at machine.old) (next_state (state_of M.at machine.old)).arch.pc) (kept_of M.at tally.old))) }
+        (rows_after (visit (with_mark calls) (word_of (M.at program.old) machine.old.arch.pc) (state_of M.at machine.old) (next_state (state_of M.at machine.old)).arch.pc) (kept_of M.at tally.old))) }
 {
-    let visit = look(machine, program);
+    let visit = look(machine, program, calls);
     machine.one(alloc)?;
     let target = target_after(visit.jumps, machine.arch.pc);
     tally.add(alloc, &visit, target)
@@ -69,18 +70,19 @@ fn count_all<M: Memory>(
     program: &mut M,
     tally: &mut Tally<M>,
     budget: u64,
+    calls: bool,
 ) -> Result<(), ProfilingErr>
     requires position { machine.old.position ≡ 0 }
     requires kept { kept_of M.at tally.old ≡ nothing_kept }
     requires tally { IsTally tally.old }
     requires program { M.at program.old ≡ M.at machine.old.arch.mem }
     requires budget { budget ≤ 10 ^ 12 }
-    ensures counted { OnOk result (IsCounted M.at (state_of M.at machine.old) (steps (state_of M.at machine.old) budget) machine.new tally.new) }
-    ensures wide { IfErr result (λ e. e ≡ Wide → IsWide (kept (state_of M.at machine.old) (steps (state_of M.at machine.old) budget)).rows) }
+    ensures counted { OnOk result (IsCounted M.at (with_mark calls) (state_of M.at machine.old) (steps (state_of M.at machine.old) budget) machine.new tally.new) }
+    ensures wide { IfErr result (λ e. e ≡ Wide → IsWide (kept (with_mark calls) (state_of M.at machine.old) (steps (state_of M.at machine.old) budget)).rows) }
 {
     prove!(machine.arch.pc % 4 == 0);
     while machine.position < budget && machine.end.is_none() {
-        step(alloc, machine, program, tally)?;
+        step(alloc, machine, program, tally, calls)?;
     }
     Ok(())
 }
@@ -91,18 +93,19 @@ fn profile_on<M: Memory>(
     p: &Program,
     input: Vec<u8>,
     budget: u64,
+    calls: bool,
 ) -> Result<Profile, ProfilingErr>
     requires program { IsProgram p.now }
     requires budget { budget ≤ 10 ^ 12 }
-    ensures profile { IfOk result (λ f. IsProfileOf (start_of p.now input.items) (steps (start_of p.now input.items) budget) f) }
+    ensures profile { IfOk result (λ f. IsProfileOf (with_mark calls) (start_of p.now input.items) (steps (start_of p.now input.items) budget) f) }
     ensures narrow { IfOk result (λ f. IsWide f.rows → ⊥) }
     ensures wide { IfErr result (λ e. e ≡ Wide →
-        (f : Profiled) → IsProfileOf (start_of p.now input.items) (steps (start_of p.now input.items) budget) f → IsWide f.rows) }
+        (f : Profiled) → IsProfileOf (with_mark calls) (start_of p.now input.items) (steps (start_of p.now input.items) budget) f → IsWide f.rows) }
 {
     let mut machine: Machine<M> = load(alloc, p, input)?;
     let mut program = machine.arch.mem.snapshot(alloc)?;
     let mut tally = Tally::new(alloc)?;
-    count_all(alloc, &mut machine, &mut program, &mut tally, budget)?;
+    count_all(alloc, &mut machine, &mut program, &mut tally, budget, calls)?;
     let rows = close(alloc, &tally.table.rows)?;
     Ok(Profile::new(machine.position, machine.end.is_some(), rows))
 }
@@ -112,8 +115,11 @@ fn profile_on<M: Memory>(
 ///
 /// A branch to a place that is no multiple of 4 is taken where its condition holds, although it ends
 /// the run. What a store puts counts as read where a later step loads one of its bytes, or fetches it
-/// as code, and nothing wrote that byte between; a `write` call reads nothing, and a `read` call
-/// writes. A load to register 0 loads.
+/// as code, and nothing wrote that byte between; a `read` call writes. A load to register 0 loads.
+///
+/// `calls` is the mark for short writes: `write` calls of at most 256 bytes to descriptor 1 or 2. With
+/// it each counts as taken, and reads the bytes that it shows. A longer `write` reads nothing and is
+/// not taken, nor is any without the mark.
 ///
 /// # Errors
 ///
@@ -124,17 +130,18 @@ pub fn profile(
     p: &Program,
     input: Vec<u8>,
     budget: u64,
+    calls: bool,
 ) -> Result<Profile, ProfilingErr>
     requires program { IsProgram p.now }
     requires budget { budget ≤ 10 ^ 12 }
 
     // It is the profile of the run, of which there is one; and it is not too wide.
-    ensures profile { IfOk result (λ f. IsProfileOf (start_of p.now input.items) (steps (start_of p.now input.items) budget) f) }
+    ensures profile { IfOk result (λ f. IsProfileOf (with_mark calls) (start_of p.now input.items) (steps (start_of p.now input.items) budget) f) }
     ensures narrow { IfOk result (λ f. IsWide f.rows → ⊥) }
 
     // So this error comes where the run's profile is too wide, and nowhere else.
     ensures wide { IfErr result (λ e. e ≡ Wide →
-        (f : Profiled) → IsProfileOf (start_of p.now input.items) (steps (start_of p.now input.items) budget) f → IsWide f.rows) }
+        (f : Profiled) → IsProfileOf (with_mark calls) (start_of p.now input.items) (steps (start_of p.now input.items) budget) f → IsWide f.rows) }
 {
-    profile_on::<PlainMemory>(alloc, p, input, budget)
+    profile_on::<PlainMemory>(alloc, p, input, budget, calls)
 }

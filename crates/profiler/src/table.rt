@@ -87,19 +87,6 @@ impl Table {
         }
     }
 
-    /// Notes that a byte with this mark was read, where the one before had another.
-    pub fn mark_other(&mut self, noted: u32, found: u32)
-        requires keyed { IsKeyed self.old.rows }
-        requires noted { marked noted (values self.old.rows) ≡ values self.old.rows }
-        ensures rows { values self.new.rows ≡ marked found (values self.old.rows) }
-        ensures noted { marked found (values self.new.rows) ≡ values self.new.rows }
-        ensures keyed { IsKeyed self.new.rows }
-    {
-        if found != noted {
-            self.mark(found);
-        }
-    }
-
     /// Counts a position in the row of its address, and answers how many targets that added.
     #[inline(always)]
     pub fn count(

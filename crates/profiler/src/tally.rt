@@ -3,7 +3,6 @@
 ghost use Rattle.std.specs.Prelude.{◌≡◌, ℕ, ◌-◌, ◌<◌, ◌^◌, OnOk, IfOk, IfErr, if◌then◌else◌};
 ghost use Rattle.indexmap.specs.IndexMap.{values};
 ghost use Rattle.profile_data.specs.Keyed.{IsKeyed};
-ghost use Rattle.fitting.specs.Claims.{among};
 ghost use Rattle.profile_laws.specs.Profiles.{IsWide};
 ghost use Rattle.profile_laws.specs.Tally.{bytes_in, read_back, nothing_kept, after_visit, rows_after, visited};
 ghost use Rattle.memory_access.specs.Spans.{span_of};
@@ -14,6 +13,7 @@ ghost use Rattle.profiler.specs.Rows.{EachHasRoom};
 ghost use Rattle.profiler.specs.Tally.{kept_of, IsTally};
 
 use crate::error::ProfilingErr;
+use crate::reading::read_back;
 use crate::table::Table;
 use crate::visit::Visit;
 use memory_access::{Shadow, Span};
@@ -33,39 +33,6 @@ pub(crate) struct Tally<M: Memory> {
     pub targets: usize,
     /// Of each byte 1 more than the address of the store that wrote it last, or 0.
     pub writers: Shadow<M>,
-}
-
-/// Notes each store whose bytes are in a span, byte by byte. Bytes with the same mark, one after
-/// another, are noted once.
-#[inline(never)]
-fn read_each<M: Memory>(table: &mut Table, writers: &Shadow<M>, span: Span)
-    requires { IsKeyed table.old.rows }
-    ensures rows { values table.new.rows ≡ read_back (mark_at M.at writers.now) (bytes_in (span_of span)) (values table.old.rows) }
-    ensures keyed { IsKeyed table.new.rows }
-{
-    let mut noted = 0;
-    for i in 0..span.count {
-        let found = writers.get(span.from.wrapping_add(i));
-        table.mark_other(noted, found);
-        noted = found;
-    }
-}
-
-/// Notes each store whose bytes are in a span. Most of them lie in one word that one store wrote, and
-/// are noted at once.
-#[inline(always)]
-fn read_back<M: Memory>(table: &mut Table, writers: &Shadow<M>, span: Span)
-    requires { IsKeyed table.old.rows }
-    ensures rows { values table.new.rows ≡ read_back (mark_at M.at writers.now) (bytes_in (span_of span)) (values table.old.rows) }
-    ensures keyed { IsKeyed table.new.rows }
-{
-    if span.count == 0 {
-        return;
-    }
-    match writers.common(span) {
-        Some(mark) => table.mark(mark),
-        None => read_each(table, writers, span),
-    }
 }
 
 impl<M: Memory> Tally<M> {

@@ -2,7 +2,7 @@
 use Rattle.std.proofs.Common.{◌≡◌, ◌∙◌, ◌^◌, ◌<◌, true, false, inl, inr, refl, sym, subst, arith, rules}
 use Rattle.cells.specs.Run.{is_over}
 use Rattle.seq_machine.specs.States.{state_of}
-use Rattle.profile_laws.specs.Profiles.{steps, IsWide}
+use Rattle.profile_laws.specs.Profiles.{steps, with_mark, IsWide}
 use Rattle.profile_laws.specs.Tally.{kept}
 use Rattle.profiler.specs.declared.error.ProfilingErr.TheVariants.{Wide}
 use Rattle.profiler.specs.Counted.{IsCounted}
@@ -14,22 +14,22 @@ loop-machine-init g c =
     let m = c.args.machine.now in
     let small : m.arch.pc < 2 ^ 32 = search rules in
     record {
-      counted = subst (λ k. IsCounted g.M.Memory.at (state_of g.M.Memory.at m) k m c.args.tally.now) (sym c.requires.position)
-          (counted_at_start g.M.Memory.at (state_of g.M.Memory.at m) m c.args.tally.now refl c.requires.position c.requires.kept c.requires.tally (m.aligned, small));
+      counted = subst (λ k. IsCounted g.M.Memory.at (with_mark c.args.calls) (state_of g.M.Memory.at m) k m c.args.tally.now) (sym c.requires.position)
+          (counted_at_start g.M.Memory.at (with_mark c.args.calls) (state_of g.M.Memory.at m) m c.args.tally.now refl c.requires.position c.requires.kept c.requires.tally (m.aligned, small));
       program = refl;
       within = omega arith;
     }
 
 pub step-requires-clause-room : goal.step-requires-clause-room
 step-requires-clause-room g c =
-    room g.M.Memory.at (state_of g.M.Memory.at c.args.machine.now) c.loop-machine.machine.position c.loop-machine.machine c.loop-machine.tally c.loop-machine.invariant.counted
+    room g.M.Memory.at (with_mark c.args.calls) (state_of g.M.Memory.at c.args.machine.now) c.loop-machine.machine.position c.loop-machine.machine c.loop-machine.tally c.loop-machine.invariant.counted
     (g.M.Memory.at c.loop-machine.program) (c.loop-machine.invariant.program ∙ c.requires.program) (omega (arith, c.loop-machine-test.true, c.requires.budget))
 
 pub loop-machine-preserved : goal.loop-machine-preserved
 loop-machine-preserved g c =
     let going : is_over (state_of g.M.Memory.at c.loop-machine.machine) ≡ false = search rules in
     record {
-      counted = counted_next g.M.Memory.at (state_of g.M.Memory.at c.args.machine.now) c.loop-machine.machine.position c.loop-machine.machine c.loop-machine.tally c.loop-machine.invariant.counted
+      counted = counted_next g.M.Memory.at (with_mark c.args.calls) (state_of g.M.Memory.at c.args.machine.now) c.loop-machine.machine.position c.loop-machine.machine c.loop-machine.tally c.loop-machine.invariant.counted
           (g.M.Memory.at c.loop-machine.program) (c.loop-machine.invariant.program ∙ c.requires.program) c.step.new.machine c.step.new.tally going
           c.in_ok-step.ensures.state c.in_ok-step.ensures.position c.in_ok-step.ensures.kept c.in_ok-step.ensures.tally c.in_ok-step.ensures.pc;
       program = c.step.ensures.program ∙ c.loop-machine.invariant.program;
@@ -39,19 +39,19 @@ loop-machine-preserved g c =
 pub returns-in_err-step-clause-wide : goal.returns-in_err-step-clause-wide
 returns-in_err-step-clause-wide g c =
     let going : is_over (state_of g.M.Memory.at c.loop-machine.machine) ≡ false = search rules in
-    let at_end = wide_at_end g.M.Memory.at (state_of g.M.Memory.at c.args.machine.now) c.loop-machine.machine.position c.loop-machine.machine c.loop-machine.tally c.loop-machine.invariant.counted
+    let at_end = wide_at_end g.M.Memory.at (with_mark c.args.calls) (state_of g.M.Memory.at c.args.machine.now) c.loop-machine.machine.position c.loop-machine.machine c.loop-machine.tally c.loop-machine.invariant.counted
     (g.M.Memory.at c.loop-machine.program) (c.loop-machine.invariant.program ∙ c.requires.program) c.args.budget c.loop-machine-test.true going in
-    let wide : c.in_err-step.field-0.0 ≡ Wide → IsWide (kept (state_of g.M.Memory.at c.args.machine.now) (steps (state_of g.M.Memory.at c.args.machine.now) c.args.budget)).rows =
+    let wide : c.in_err-step.field-0.0 ≡ Wide → IsWide (kept (with_mark c.args.calls) (state_of g.M.Memory.at c.args.machine.now) (steps (state_of g.M.Memory.at c.args.machine.now) c.args.budget)).rows =
     λ e. at_end (c.in_err-step.ensures.wide e) in
     search rules
 
 pub returns-else-is_none-clause-counted : goal.returns-else-is_none-clause-counted
 returns-else-is_none-clause-counted g c =
     let over : is_over (state_of g.M.Memory.at c.loop-machine.machine) ≡ true = search rules in
-    counted_all g.M.Memory.at (state_of g.M.Memory.at c.args.machine.now) c.loop-machine.machine.position c.loop-machine.machine c.loop-machine.tally c.loop-machine.invariant.counted
+    counted_all g.M.Memory.at (with_mark c.args.calls) (state_of g.M.Memory.at c.args.machine.now) c.loop-machine.machine.position c.loop-machine.machine c.loop-machine.tally c.loop-machine.invariant.counted
     (g.M.Memory.at c.loop-machine.program) (c.loop-machine.invariant.program ∙ c.requires.program) c.args.budget c.loop-machine.invariant.within (inr over)
 
 pub returns-after-loop-machine-clause-counted : goal.returns-after-loop-machine-clause-counted
 returns-after-loop-machine-clause-counted g c =
-    counted_all g.M.Memory.at (state_of g.M.Memory.at c.args.machine.now) c.loop-machine.machine.position c.loop-machine.machine c.loop-machine.tally c.loop-machine.invariant.counted
+    counted_all g.M.Memory.at (with_mark c.args.calls) (state_of g.M.Memory.at c.args.machine.now) c.loop-machine.machine.position c.loop-machine.machine c.loop-machine.tally c.loop-machine.invariant.counted
     (g.M.Memory.at c.loop-machine.program) (c.loop-machine.invariant.program ∙ c.requires.program) c.args.budget c.loop-machine.invariant.within (inl c.loop-machine-test.false)
