@@ -10,7 +10,7 @@ use Rattle.std.proofs.lemmas.List.{length-map, get_or-map}
 use Rattle.std.proofs.lemmas.List.Elements.{All-get_or}
 use Rattle.dist_image.specs.declared.image.Assumption.{Assumption}
 use Rattle.dist_image.specs.declared.image.Assumption.TheVariants as assumption
-use Rattle.dist_image.specs.Image.{Premise, Cut, Targets, Dead, Code, Within, Span, IsPremise, premise, place_of, key_of}
+use Rattle.dist_image.specs.Image.{Premise, Cut, Targets, Dead, Code, Within, Span, Same, IsPremise, premise, place_of, key_of}
 use Rattle.dist_image.proofs.Search.{found_has}
 use Rattle.assume_list.specs.Marks.{with_dead, dead_in}
 use Rattle.assume_list.proofs.Quiet.{listed_any, not_there}
@@ -26,6 +26,7 @@ claimed (Targets at to ∷ xs) m a = claimed xs m a
 claimed (Code ∷ xs) m a = claimed xs m a
 claimed (Within ∷ xs) m a = claimed xs m a
 claimed (Span ∷ xs) m a = claimed xs m a
+claimed (Same at value ∷ xs) m a = claimed xs m a
 claimed (Dead at ∷ xs) m a = claimed xs (λ b. cond (nat_eq at b) 1 (m b)) a ∙ both (list_any (is_dead_at a) xs) (nat_eq at a)
   where
     both : (x y : Bool) → cond x 1 (cond y 1 (m a)) ≡ cond (y || x) 1 (m a)
@@ -49,6 +50,7 @@ by_key a (Dead at) l p e = eq-eqb at a (omega (arith, e))
 by_key a Code l p e = absurd (omega (arith, l, e))
 by_key a Within l p e = absurd (omega (arith, l, e))
 by_key a Span l p e = absurd (omega (arith, l, e))
+by_key a (Same at value) l p e = absurd (omega (arith, l, p, e))
 
 key_is : (a : ℕ) (x : Premise) → is_dead_at a x ≡ true → key_of x ≡ 2 * 4294967296 + a
 key_is a (Dead at) e = let same = eqb-true at a e in omega (arith, same)
@@ -57,6 +59,7 @@ key_is a (Targets at to) e = absurd (true≢false (sym e))
 key_is a Code e = absurd (true≢false (sym e))
 key_is a Within e = absurd (true≢false (sym e))
 key_is a Span e = absurd (true≢false (sym e))
+key_is a (Same at value) e = absurd (true≢false (sym e))
 
 there_at : (xs : List Assumption) (k : ℕ) (d : Assumption) → k < length xs → slice_get (map premise xs) k ≡ Some (premise (get_or xs k d))
 there_at [] k d l = absurd (omega (arith, l))

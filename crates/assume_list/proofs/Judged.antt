@@ -1,17 +1,17 @@
 -- The verdict, by what the pass and the wait came to.
-use Rattle.std.proofs.Common.{◌≡◌, inl, inr, ℕ, zero, suc, ◌+◌, ◌-◌, ◌<◌, ◌≤◌, min, Bool, true, false, cond, List, [], ◌∷◌, Option, Some, None, unwrap_or, refl, sym, ap, ◌∙◌, subst, ⊎_elim, true≢false, arith}
-use Rattle.std.specs.Prelude.{slice_get}
-use Rattle.std.proofs.lemmas.Bool.{cases_eq, cases_lt}
+use Rattle.std.proofs.Common.{◌≡◌, ◌⊎◌, inl, inr, ℕ, zero, suc, ◌+◌, ◌-◌, ◌<◌, ◌≤◌, min, Bool, true, false, cond, List, [], ◌∷◌, Option, Some, None, unwrap_or, refl, sym, ap, ◌∙◌, subst, ⊎_elim, true≢false, arith}
+use Rattle.std.specs.Prelude.{slice_get, nat_lt}
+use Rattle.std.proofs.lemmas.Bool.{cases_eq, cases_lt, lt-ltb, ltb-true}
 use Rattle.cells.specs.Run.{State, is_over}
-use Rattle.dist_image.specs.Image.{Premise, Cut, Targets, Dead, Code, Within, Span, Distilled, IsImage}
+use Rattle.dist_image.specs.Image.{Premise, Cut, Targets, Dead, Code, Within, Span, Same, Distilled, IsImage}
 use Rattle.fitting.specs.Fits.{IsListed}
 use Rattle.fitting.specs.Fails.{state_at, Meets, IsBroken}
 use Rattle.assume_laws.specs.declared.Waiting.{Waiting}
-use Rattle.assume_laws.specs.Looks.{first_from}
+use Rattle.assume_laws.specs.Looks.{first_from, first_failing}
 use Rattle.assume_laws.proofs.Spans.{going_before}
 use Rattle.assume_laws.proofs.Verdicts.{verdict_is_told}
 use Rattle.assume_list.specs.declared.verdict.Verdict.TheVariants.{Met, Broken}
-use Rattle.assume_list.specs.Passes.{is_span, bound_of, or_late, IsReached, IsClean, IsLate, IsFailed, IsThrough, IsAwaited}
+use Rattle.assume_list.specs.Passes.{is_span, asked_below, bound_of, or_late, IsReached, IsClean, IsLate, IsFailed, IsThrough, IsAwaited}
 use Rattle.assume_list.specs.Verdicts.{IsLesser, IsVerdict, VerdictIsOne}
 use Rattle.assume_list.proofs.Turns.{clean_less}
 
@@ -30,6 +30,7 @@ span_is (Dead at) h = absurd (true≢false (sym h))
 span_is Code h = absurd (true≢false (sym h))
 span_is Within h = absurd (true≢false (sym h))
 span_is Span h = refl
+span_is (Same at value) h = absurd (true≢false (sym h))
 
 -- the number of the first that is Span is that of one that is
 span_there : (n k : ℕ) (xs : List Premise) → first_from is_span n xs ≡ Some k → (d : ℕ) × (n + d ≡ k) × (slice_get xs d ≡ Some Span)
@@ -51,11 +52,23 @@ span_nowhere n (x ∷ xs) e d at = go (is_span x) refl e d at (λ h i f. span_no
     go false t e zero at rest = true≢false (ap is_span (sym (premise_is x Span at)) ∙ t)
     go false t e (suc d) at rest = rest e d at
 
--- Span is told of below this bound: below the budget where it is listed, at this number, and else nowhere
-pub record IsBound (image : Distilled) (budget bound which : ℕ) : Type 0 where
+-- and no one before it is Span
+span_first : (n k d : ℕ) (xs : List Premise) → first_from is_span n xs ≡ Some k → slice_get xs d ≡ Some Span → k ≤ n + d
+span_first n k d [] e at = absurd (cc)
+span_first n k d (x ∷ xs) e at = go (is_span x) refl e d at (λ h i f. span_first (suc n) k i xs h f)
+  where
+    go : (b : Bool) → is_span x ≡ b → cond b (Some n) (first_from is_span (suc n) xs) ≡ Some k → (d : ℕ) → slice_get (x ∷ xs) d ≡ Some Span
+        → (first_from is_span (suc n) xs ≡ Some k → (i : ℕ) → slice_get xs i ≡ Some Span → k ≤ suc n + i) → k ≤ n + d
+    go true t e d at rest = let same : n ≡ k = number_is n k e in omega (arith, same)
+    go false t e zero at rest = absurd (true≢false (ap is_span (sym (premise_is x Span at)) ∙ t))
+    go false t e (suc d) at rest = let r = rest e d at in omega (arith, r)
+
+-- Span is told of below this bound: below the budget where it is listed, at this number first, and else nowhere
+pub record IsBound (image : Distilled) (budget bound span : ℕ) : Type 0 where
   pub below : bound ≤ budget
   pub listed : IsListed image.assumptions Span → bound ≡ budget
-  pub there : (i : ℕ) → i < bound → slice_get image.assumptions which ≡ Some Span
+  pub there : (i : ℕ) → i < bound → slice_get image.assumptions span ≡ Some Span
+  pub first : (k : ℕ) → slice_get image.assumptions k ≡ Some Span → span ≤ k
 
 pub told_bound : (image : Distilled) (budget : ℕ) (span : Option ℕ) → span ≡ first_from is_span 0 image.assumptions → IsBound image budget (bound_of span budget) (unwrap_or span 0)
 told_bound image budget (Some k) e =
@@ -66,50 +79,87 @@ told_bound image budget (Some k) e =
       below = omega arith;
       listed = λ _. refl;
       there = λ i l. subst (λ n. slice_get image.assumptions n ≡ Some Span) same s.2;
+      first = λ d at. let low = span_first 0 k d image.assumptions (sym e) at in omega (arith, low);
     }
 told_bound image budget None e = record {
   below = omega arith;
   listed = λ l. absurd (span_nowhere 0 image.assumptions (sym e) l.0 l.1);
   there = λ i l. absurd (omega (arith, l));
+  first = λ k at. omega arith;
 }
 
-module _ (start : State) (image : Distilled) (valid : IsImage image) (budget bound which : ℕ) (told : IsBound image budget bound which) where
-  -- Span fails, and no other assumption up to there
-  late_broken : (i : ℕ) → IsLate start image bound i → IsClean start image (suc i) → IsVerdict start image budget (Broken i which)
-  late_broken i l clean =
+-- Span is asked about at a position itself only where it is listed before the first other that fails there
+asked_here : (k span position i : ℕ) → i < asked_below k span position → (i < position) ⊎ ((i ≡ position) × (span < k))
+asked_here k span position i l = go (nat_lt span k) refl l
+  where
+    go : (b : Bool) → nat_lt span k ≡ b → i < cond b (position + 1) position → (i < position) ⊎ ((i ≡ position) × (span < k))
+    go true e l = ⊎_elim (λ (s : i ≡ position). inr (s, ltb-true span k e)) (λ (ne : i ≡ position → ⊥). inl (omega (arith, l, ne))) (cases_eq i position)
+    go false e l = inl l
+
+asked_all : (k span position : ℕ) → position ≤ asked_below k span position
+asked_all k span position = go (nat_lt span k)
+  where
+    go : (b : Bool) → position ≤ cond b (position + 1) position
+    go true = omega arith
+    go false = omega arith
+
+asked_too : (k span position : ℕ) → span < k → position < asked_below k span position
+asked_too k span position l = subst (λ b. position < cond b (position + 1) position) (sym (lt-ltb span k l)) (omega arith)
+
+module _ (start : State) (image : Distilled) (valid : IsImage image) (budget bound span : ℕ) (told : IsBound image budget bound span) where
+  -- Span fails, no other assumption before, and none there that is listed before
+  late_broken : (i : ℕ) → IsLate start image bound i → IsClean start image i → ((k : ℕ) → first_failing start image i ≡ Some k → span < k) → IsVerdict start image budget (Broken i span)
+  late_broken i l clean behind =
       let within = l.within in
       let low = told.below in (
         omega (arith, within, low),
-        (verdict_is_told start image valid).late i which
-            (record { looks = λ h b going. clean h (omega (arith, b)) going; spans = λ listed h b going. l.first h b })
+        (verdict_is_told start image valid).late i span
+            (record { looks = clean; spans = λ listed h b going. l.first h b })
             l.going
-            (clean i (omega arith) l.going)
+            behind
             l.fails
             (told.there i l.within),
       )
 
-  pub late_verdict : (i : ℕ) → IsLate start image bound i × IsClean start image (suc i) → IsVerdict start image budget (Broken i which)
-  late_verdict i h = late_broken i h.0 h.1
+  none_there : (o : Option ℕ) (k : ℕ) → o ≡ None → o ≡ Some k → span < k
+  none_there o k none some = absurd (cc)
+
+  -- and no other assumption there either
+  late_alone : (i : ℕ) → IsLate start image bound i → IsClean start image (suc i) → IsVerdict start image budget (Broken i span)
+  late_alone i l clean = late_broken i l (clean_less start image i (suc i) (omega arith) clean) (λ k some. none_there (first_failing start image i) k (clean i (omega arith) l.going) some)
+
+  pub late_verdict : (i : ℕ) → IsLate start image bound i × IsClean start image (suc i) → IsVerdict start image budget (Broken i span)
+  late_verdict i h = late_alone i h.0 h.1
 
   module _ (p : ℕ) (s : State) (ws : List Waiting) where
     -- another assumption fails
-    pub failed_late : (k i : ℕ) (f : IsFailed start image budget bound p s ws k) → IsLate start image (min bound f.place) i → IsVerdict start image budget (Broken i which)
+    pub failed_late : (k i : ℕ) (f : IsFailed start image budget bound span p s ws k) → IsLate start image (min bound (asked_below k span f.place)) i → IsVerdict start image budget (Broken i span)
     failed_late k i f l =
         let within = l.within in
-        late_broken i
-        (record { within = omega (arith, within); going = l.going; fails = l.fails; first = l.first })
-        (clean_less start image (suc i) f.place (omega (arith, within)) f.clean)
+        let late : IsLate start image bound i = record { within = omega (arith, within); going = l.going; fails = l.fails; first = l.first } in
+        ⊎_elim
+        (λ (before : i < f.place). late_alone i late (clean_less start image (suc i) f.place (omega (arith, before)) f.clean))
+        (λ (here : (i ≡ f.place) × (span < k)). let place = here.0 in
+        late_broken i late (clean_less start image i f.place (omega (arith, place)) f.clean)
+        (λ j some. subst (λ n. span < n) (number_is k j (sym f.fails ∙ ap (first_failing start image) (sym here.0) ∙ some)) here.1))
+        (asked_here k span f.place i (omega (arith, within)))
 
-    pub failed_first : (k : ℕ) (f : IsFailed start image budget bound p s ws k) → IsAwaited start image (min bound f.place) None → IsVerdict start image budget (Broken f.place k)
+    pub failed_first : (k : ℕ) (f : IsFailed start image budget bound span p s ws k) → IsAwaited start image (min bound (asked_below k span f.place)) None → IsVerdict start image budget (Broken f.place k)
     failed_first k f none =
-        let below = f.below in (
+        let below = f.below in
+        let low = asked_all k span f.place in (
           f.below,
           (verdict_is_told start image valid).broken f.place k
               (record {
                 looks = f.clean;
-                spans = λ listed i b going. let all = told.listed listed in none i (omega (arith, b, all, below)) going;
+                spans = λ listed i b going. let all = told.listed listed in none i (omega (arith, b, all, below, low)) going;
               })
-              f.going f.fails,
+              f.going f.fails
+              (λ j before at.
+              let all = told.listed (j, at) in
+              let first = told.first j at in
+              let too = asked_too k span f.place (omega (arith, first, before)) in
+              none f.place (omega (arith, all, below, too)) f.going),
         )
 
     -- none fails
@@ -122,8 +172,8 @@ module _ (start : State) (image : Distilled) (valid : IsImage image) (budget bou
         ])
         t.stops
 
-    pub through_late : (i : ℕ) → IsThrough start image budget bound p s ws → IsLate start image bound i → IsVerdict start image budget (Broken i which)
-    through_late i t l = let before = before_end i t l.within l.going in late_broken i l (clean_less start image (suc i) p (omega (arith, before)) t.clean)
+    pub through_late : (i : ℕ) → IsThrough start image budget bound p s ws → IsLate start image bound i → IsVerdict start image budget (Broken i span)
+    through_late i t l = let before = before_end i t l.within l.going in late_alone i l (clean_less start image (suc i) p (omega (arith, before)) t.clean)
 
     pub through_met : IsThrough start image budget bound p s ws → IsAwaited start image bound None → IsVerdict start image budget (Met p)
     through_met t none =
@@ -139,22 +189,22 @@ module _ (start : State) (image : Distilled) (valid : IsImage image) (budget bou
           }),
         )
 
-    failed_by : (late : Option ℕ) (k : ℕ) (f : IsFailed start image budget bound p s ws k) → IsAwaited start image (min bound f.place) late
-        → IsVerdict start image budget (or_late late which (Broken f.place k))
+    failed_by : (late : Option ℕ) (k : ℕ) (f : IsFailed start image budget bound span p s ws k) → IsAwaited start image (min bound (asked_below k span f.place)) late
+        → IsVerdict start image budget (or_late late span (Broken f.place k))
     failed_by None k f a = failed_first k f a
     failed_by (Some i) k f a = failed_late k i f a
 
     -- q is the position before p, and b the bound from there on
-    pub failed_verdict : (late : Option ℕ) (k q b : ℕ) → IsFailed start image budget bound p s ws k → q ≡ p - 1 → b ≡ min bound q
-        → (IsReached start image b p s ws → IsAwaited start image b late) → IsVerdict start image budget (or_late late which (Broken q k))
+    pub failed_verdict : (late : Option ℕ) (k q b : ℕ) → IsFailed start image budget bound span p s ws k → q ≡ p - 1 → b ≡ min bound (asked_below k span q)
+        → (IsReached start image b p s ws → IsAwaited start image b late) → IsVerdict start image budget (or_late late span (Broken q k))
     failed_verdict late k q b f q_is b_is a =
         let passed = f.passed in
         let place : q ≡ f.place = omega (arith, passed, q_is) in
-        let same : b ≡ min bound f.place = b_is ∙ ap (min bound) place in
-        subst (λ n. IsVerdict start image budget (or_late late which (Broken n k))) (sym place)
+        let same : b ≡ min bound (asked_below k span f.place) = b_is ∙ ap (λ n. min bound (asked_below k span n)) place in
+        subst (λ n. IsVerdict start image budget (or_late late span (Broken n k))) (sym place)
         (failed_by late k f (subst (λ n. IsAwaited start image n late) same (a (subst (λ n. IsReached start image n p s ws) (sym same) f.reached))))
 
-    pub through_verdict : (late : Option ℕ) → IsThrough start image budget bound p s ws → IsAwaited start image bound late → IsVerdict start image budget (or_late late which (Met p))
+    pub through_verdict : (late : Option ℕ) → IsThrough start image budget bound p s ws → IsAwaited start image bound late → IsVerdict start image budget (or_late late span (Met p))
     through_verdict None t a = through_met t a
     through_verdict (Some i) t a = through_late i t a
 

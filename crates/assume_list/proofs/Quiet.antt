@@ -1,5 +1,5 @@
 -- Where nothing that is seen of a position can fail, nothing does.
-use Rattle.std.proofs.Common.{◌≡◌, inl, inr, ℕ, zero, suc, ◌+◌, ◌<◌, ◌≤◌, Bool, true, false, not, ◌||◌, ◌&&◌, cond, List, [], ◌∷◌, map, length, get_or, Option, Some, None, refl, sym, ap, ◌∙◌, subst, ⊎_elim, true≢false, arith}
+use Rattle.std.proofs.Common.{◌≡◌, inl, inr, ℕ, zero, suc, ◌+◌, ◌*◌, ◌<◌, ◌≤◌, Bool, true, false, not, ◌||◌, ◌&&◌, cond, List, [], ◌∷◌, map, length, get_or, Option, Some, None, refl, sym, ap, ◌∙◌, subst, ⊎_elim, true≢false, arith}
 use Rattle.std.specs.Prelude.{nat_eq, slice_get, is_none, Ok, Err}
 use Rattle.std.specs.List.{list_any}
 use Rattle.std.specs.List.Sorted.{IsStrictlyIncreasing}
@@ -8,11 +8,11 @@ use Rattle.std.specs.List.Sorted.{IsBinarySearchResult}
 use Rattle.std.proofs.lemmas.Bool.{ne_eqb, cases_eq, cases_lt, or_left, or_right}
 use Rattle.std.proofs.lemmas.List.{get_or-map, length-map}
 use Rattle.dist_image.specs.declared.image.Assumption.{Assumption}
-use Rattle.dist_image.specs.Image.{Premise, Cut, Targets, Dead, Code, Within, Span, premise, key_of}
+use Rattle.dist_image.specs.Image.{Premise, Cut, Targets, Dead, Code, Within, Span, Same, premise, key_of}
 use Rattle.dist_image.proofs.Search.{rising, found_has, absent}
 use Rattle.fitting.specs.Claims.{among}
-use Rattle.assume_laws.specs.Looks.{Look, is_side, fails_by, first_from}
-use Rattle.assume_list.specs.Sights.{is_code, is_within}
+use Rattle.assume_laws.specs.Looks.{Look, is_side, is_other, fails_by, first_from}
+use Rattle.assume_list.specs.Sights.{is_code, is_within, is_same}
 
 -- ---- lists
 
@@ -123,6 +123,28 @@ targets_by_key v at to r h told = ⊎_elim
     (λ (ne : v.pc ≡ at → ⊥). elsewhere v.pc at (not v.stops && (v.jumps && not (among to v.next))) ne)
     (cases_eq v.pc at)
 
+-- the value of a load fails nowhere where none is loaded
+no_other : (value : ℕ) (o : Option ℕ) → is_none o ≡ true → is_other value o ≡ false
+no_other value (Some n) h = absurd (true≢false (sym h))
+no_other value None h = refl
+
+and_no : (a b : Bool) → b ≡ false → (a && b) ≡ false
+and_no true b h = h
+and_no false b h = refl
+
+pub same_no_load : (v : Look) (at value : ℕ) → is_none v.load ≡ true → fails_by v (Same at value) ≡ false
+same_no_load v at value h = and_no (nat_eq v.pc at) (is_other value v.load) (no_other value v.load h)
+
+pub same_by_key : (v : Look) (at value : ℕ) (r : Bool) → r ≡ false → (key_of (Same at value) ≡ 6 * 4294967296 + v.pc → r ≡ fails_by v (Same at value)) → fails_by v (Same at value) ≡ false
+same_by_key v at value r h told = ⊎_elim
+    (λ (e : v.pc ≡ at). sym (told (omega (arith, e))) ∙ h)
+    (λ (ne : v.pc ≡ at → ⊥). elsewhere v.pc at (is_other value v.load) ne)
+    (cases_eq v.pc at)
+
+-- nor where no value is listed
+pub same_unlisted : (v : Look) (xs : List Premise) (k at value : ℕ) → list_any is_same xs ≡ false → slice_get xs k ≡ Some (Same at value) → fails_by v (Same at value) ≡ false
+same_unlisted v xs k at value none e = absurd (true≢false (sym (listed_any is_same xs k (Same at value) e refl) ∙ none))
+
 -- ---- none fails
 
 none_among : (ms : List ℕ) (at : ℕ) → length ms ≡ 0 → among ms at ≡ false
@@ -149,10 +171,12 @@ pub quiet : (v : Look) (xs : List Premise) (code within : Bool) → length v.mar
     → (v.analysed && ((v.changed && code) || (not v.stops && (not v.stays && within)))) ≡ false
     → ((k at : ℕ) (taken : Bool) → slice_get xs k ≡ Some (Cut at taken) → fails_by v (Cut at taken) ≡ false)
     → ((k at : ℕ) (to : List ℕ) → slice_get xs k ≡ Some (Targets at to) → fails_by v (Targets at to) ≡ false)
+    → ((k at value : ℕ) → slice_get xs k ≡ Some (Same at value) → fails_by v (Same at value) ≡ false)
     → (k : ℕ) (x : Premise) → slice_get xs k ≡ Some x → fails_by v x ≡ false
-quiet v xs code within none code_is within_is h cuts targets k (Cut at taken) e = cuts k at taken e
-quiet v xs code within none code_is within_is h cuts targets k (Targets at to) e = targets k at to e
-quiet v xs code within none code_is within_is h cuts targets k (Dead at) e = none_among v.marks (at + 1) none
-quiet v xs code within none code_is within_is h cuts targets k Code e = (whole v.analysed v.changed code (not v.stops) (not v.stays) within h).0 (code_is ∙ listed_any is_code xs k Code e refl)
-quiet v xs code within none code_is within_is h cuts targets k Within e = (whole v.analysed v.changed code (not v.stops) (not v.stays) within h).1 (within_is ∙ listed_any is_within xs k Within e refl)
-quiet v xs code within none code_is within_is h cuts targets k Span e = refl
+quiet v xs code within none code_is within_is h cuts targets values k (Cut at taken) e = cuts k at taken e
+quiet v xs code within none code_is within_is h cuts targets values k (Targets at to) e = targets k at to e
+quiet v xs code within none code_is within_is h cuts targets values k (Dead at) e = none_among v.marks (at + 1) none
+quiet v xs code within none code_is within_is h cuts targets values k Code e = (whole v.analysed v.changed code (not v.stops) (not v.stays) within h).0 (code_is ∙ listed_any is_code xs k Code e refl)
+quiet v xs code within none code_is within_is h cuts targets values k Within e = (whole v.analysed v.changed code (not v.stops) (not v.stays) within h).1 (within_is ∙ listed_any is_within xs k Within e refl)
+quiet v xs code within none code_is within_is h cuts targets values k Span e = refl
+quiet v xs code within none code_is within_is h cuts targets values k (Same at value) e = values k at value e

@@ -6,7 +6,7 @@ use Rattle.std.proofs.lemmas.Bool.{eq-eqb, ne_eqb}
 use Rattle.rv_word.specs.Meaning.{meaning}
 use Rattle.cells.specs.Run.{State}
 use Rattle.rv_run.specs.Machine.{word_at}
-use Rattle.dist_image.specs.Image.{Premise, Cut, Targets, Dead, Code, Within, Span}
+use Rattle.dist_image.specs.Image.{Premise, Cut, Targets, Dead, Code, Within, Span, Same}
 use Rattle.fitting.specs.Claims.{among}
 use Rattle.profile_laws.specs.Tally.{bytes_in, stored}
 use Rattle.assume_laws.specs.Looks.{Look, fails_by, first_from}
@@ -29,6 +29,7 @@ pub record IsAlike (v w : Look) : Type 0 where
   pub analysed : v.analysed ≡ w.analysed
   pub next : v.next ≡ w.next
   pub stays : v.stays ≡ w.stays
+  pub load : v.load ≡ w.load
 
 abbrev pub AreMarked : Premise → List ℕ → List ℕ → Type 0
 AreMarked (Dead at) ms ns = among ms (at + 1) ≡ among ns (at + 1)
@@ -41,6 +42,7 @@ same_fails v w e (Dead at) m = m
 same_fails v w e Code m = cc
 same_fails v w e Within m = cc
 same_fails v w e Span m = refl
+same_fails v w e (Same at value) m = cc
 
 -- ---- dead stores that are listed
 
@@ -54,6 +56,7 @@ stays_dead (Targets at to ∷ xs) m a h = stays_dead xs m a h
 stays_dead (Code ∷ xs) m a h = stays_dead xs m a h
 stays_dead (Within ∷ xs) m a h = stays_dead xs m a h
 stays_dead (Span ∷ xs) m a h = stays_dead xs m a h
+stays_dead (Same at value ∷ xs) m a h = stays_dead xs m a h
 stays_dead (Dead at ∷ xs) m a h = stays_dead xs (λ b. cond (nat_eq at b) 1 (m b)) a (go (nat_eq at a))
   where
     go : (t : Bool) → nat_eq (cond t 1 (m a)) 0 ≡ false
@@ -73,12 +76,14 @@ listed_dead (Targets p to ∷ xs) m zero at e = absurd (cc)
 listed_dead (Code ∷ xs) m zero at e = absurd (cc)
 listed_dead (Within ∷ xs) m zero at e = absurd (cc)
 listed_dead (Span ∷ xs) m zero at e = absurd (cc)
+listed_dead (Same p value ∷ xs) m zero at e = absurd (cc)
 listed_dead (Dead p ∷ xs) m zero at e = here_dead xs m p at (dead_is p at (premise_is (Dead p) (Dead at) e))
 listed_dead (Cut p taken ∷ xs) m (suc k) at e = listed_dead xs m k at e
 listed_dead (Targets p to ∷ xs) m (suc k) at e = listed_dead xs m k at e
 listed_dead (Code ∷ xs) m (suc k) at e = listed_dead xs m k at e
 listed_dead (Within ∷ xs) m (suc k) at e = listed_dead xs m k at e
 listed_dead (Span ∷ xs) m (suc k) at e = listed_dead xs m k at e
+listed_dead (Same p value ∷ xs) m (suc k) at e = listed_dead xs m k at e
 listed_dead (Dead p ∷ xs) m (suc k) at e = listed_dead xs (λ b. cond (nat_eq p b) 1 (m b)) k at e
 
 -- ---- marks that count

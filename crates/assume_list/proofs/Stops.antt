@@ -1,21 +1,24 @@
--- A stop is a call, or ends the run.
-use Rattle.std.proofs.Common.{◌≡◌, ℕ, ◌%◌, Bool, true, false, ◌||◌, not, cond, List, [], refl, sym, ap, ◌∙◌}
+-- What stops a task is a call that none does, or ends the run.
+use Rattle.std.proofs.Common.{◌≡◌, ℕ, ◌%◌, Bool, true, false, ◌||◌, ◌&&◌, not, cond, List, [], ◌∷◌, refl, sym, ap, ◌∙◌}
 use lib.Dec.{eqb}
 use Rattle.rv_word.specs.declared.inst.Inst.{Inst}
 use Rattle.rv_word.specs.declared.inst.Inst.TheVariants.{Lui, Auipc, Jal, Jalr, Branch, Load, Store, OpImm, Op, Fence, Ecall, Ebreak, Illegal as IllegalWord}
 use Rattle.rv_word.specs.Meaning.{meaning}
 use Rattle.rv_word.specs.Masks.{sources}
 use Rattle.cells.specs.declared.Cell.{Cell}
+use Rattle.cells.specs.declared.Cell.TheVariants.{Reg}
 use Rattle.cells.specs.Cells.{value}
 use Rattle.cells.specs.Bytes.{number}
 use Rattle.cells.specs.Run.{State, is_over, printed}
 use Rattle.rv_run.specs.declared.Flow.{Flow}
 use Rattle.rv_run.specs.declared.Flow.TheVariants.{Next, Call, Break, Illegal, Misfetch}
 use Rattle.rv_run.specs.Values.{bytes_of}
-use Rattle.rv_run.specs.Effect.{effect, jumped, branched, holds, sum32, first, second, load_count, load_from}
-use Rattle.rv_run.specs.Machine.{machine, word_at, is_next}
+use Rattle.rv_run.specs.Effect.{effect, effect_at, next, jumped, branched, holds, sum32, first, second, load_count, load_from}
+use Rattle.rv_run.specs.Prints.{is_call, is_task_call}
+use Rattle.rv_run.specs.Machine.{machine, machine_in, word_at, is_next}
 use Rattle.rv_run.specs.Calls.{step, call, stopped, flow_at}
-use Rattle.assume_list.specs.Sights.{is_call}
+use Rattle.rv_run.proofs.Tasks.{moves}
+use Rattle.assume_list.specs.Sights.{is_stopping_call}
 
 abbrev is_calling : Flow → Bool
 is_calling Call = true
@@ -55,12 +58,40 @@ stopped_by Break s h = refl
 stopped_by (Illegal w) s h = refl
 stopped_by (Misfetch t) s h = refl
 
-pub stops_is : (s : State) → is_over s ≡ false → machine.stops s.arch ≡ (is_call (meaning (word_at s.arch)) || is_over (step s))
+plain_stops : (s : State) → is_over s ≡ false → machine.stops s.arch ≡ (is_call (meaning (word_at s.arch)) || is_over (step s))
 unfolding call
-stops_is s h =
+plain_stops s h =
     let i = meaning (word_at s.arch) in
     let v = value s.arch in
     stopped_by (flow_at s) s h
     ∙ ap (λ b. b || is_over (cond (machine.stops s.arch) (stopped (flow_at s) s) (gone_on s)))
     (sym (calls_by i s.arch.pc (first (sources i) v) (second (sources i) v) (number (load_count i) (load_from i (first (sources i) v)) (bytes_of v))))
     ∙ ap (λ b. is_call i || is_over (cond b s (cond (machine.stops s.arch) (stopped (flow_at s) s) (gone_on s)))) (sym h)
+
+-- a call that a task does goes on
+pub stops_is : (prints : ℕ → Bool) (s : State) → is_over s ≡ false
+    → (machine_in prints).stops s.arch ≡ (is_stopping_call prints (meaning (word_at s.arch)) s.arch || is_over (step s))
+stops_is prints s h = go (is_task_call prints i s.arch.pc v) refl
+  where
+    i : Inst
+    i = meaning (word_at s.arch)
+
+    v : Cell → ℕ
+    v = value s.arch
+
+    stops_by : Bool → Bool
+    stops_by b = not (is_next (cond b (next s.arch.pc ((Reg 10, v (Reg 12)) ∷ [])) (effect_at i s.arch.pc v)).flow)
+
+    alone : (c : Bool) → c ≡ (c && true)
+    alone true = refl
+    alone false = refl
+
+    none : (c : Bool) → false ≡ (c && false)
+    none true = refl
+    none false = refl
+
+    go : (b : Bool) → is_task_call prints i s.arch.pc v ≡ b → stops_by b ≡ ((is_call i && not b) || is_over (step s))
+    go false e = plain_stops s h ∙ ap (λ c. c || is_over (step s)) (alone (is_call i))
+    go true e =
+        let on : is_over (step s) ≡ false = ap is_over (moves prints s h (ap stops_by e)) ∙ h in
+        sym on ∙ ap (λ c. c || is_over (step s)) (none (is_call i))

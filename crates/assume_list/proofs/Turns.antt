@@ -4,10 +4,9 @@ use Rattle.std.specs.Prelude.{nat_eq, nat_lt}
 use Rattle.std.proofs.lemmas.Bool.{eqb-true, lt-ltb, ltb-true, le-ltb, or_cases, and_parts, not-true, cases_eq, cases_lt}
 use Rattle.cells.specs.declared.End.{End}
 use Rattle.cells.specs.Run.{State, is_over, is_end}
-use Rattle.rv_run.specs.Machine.{machine}
 use Rattle.rv_run.specs.Calls.{step}
 use Rattle.dist_image.specs.Image.{Distilled, IsImage}
-use Rattle.image_world.specs.World.{count_of}
+use Rattle.image_world.specs.World.{task_machine, count_of}
 use Rattle.fitting.specs.Fits.{is_anchor_pc}
 use Rattle.fitting.specs.Fails.{state_at, arch_at, pc_at}
 use Rattle.assume_laws.specs.declared.Waiting.{Waiting}
@@ -16,7 +15,7 @@ use Rattle.assume_laws.specs.Waits.{passed_on, joined, is_overdue, waiting, at_h
 use Rattle.assume_laws.specs.Laws.{IsSearched}
 use Rattle.assume_laws.proofs.Spans.{going_before}
 use Rattle.assume_laws.proofs.Waits.{waits_tell}
-use Rattle.assume_list.specs.Passes.{HasTurned, bound_after, IsReached, IsClean, IsLate, IsFailed, IsAwaited, IsAwake}
+use Rattle.assume_list.specs.Passes.{HasTurned, asked_below, bound_after, IsReached, IsClean, IsLate, IsFailed, IsAwaited, IsAwake}
 
 pub overdue_near : (limit j : ℕ) (ws : List Waiting) → is_overdue limit j ws ≡ true → limit ≤ j
 overdue_near limit j [] h = absurd (true≢false (sym h))
@@ -80,7 +79,7 @@ module _ (start : State) (image : Distilled) where
   unfolding waiting
   waits_low b c zero l m = refl
   waits_low b c (suc j) l m =
-      ap (passed_on (machine.stops (arch_at start j)) (is_anchor_pc image (pc_at start (suc j)))) (hand_low b c j (omega (arith, l)) m (waits_low b c j (omega (arith, l)) m))
+      ap (passed_on ((task_machine image).stops (arch_at start j)) (is_anchor_pc image (pc_at start (suc j)))) (hand_low b c j (omega (arith, l)) m (waits_low b c j (omega (arith, l)) m))
 
   reached_low : (b c j : ℕ) (s : State) (ws : List Waiting) → j ≤ b → b ≤ c → IsReached start image c j s ws → IsReached start image b j s ws
   reached_low b c j s ws l m r = record {
@@ -93,19 +92,27 @@ module _ (start : State) (image : Distilled) where
     };
   }
 
-  reached_min : (bound j : ℕ) (s : State) (ws : List Waiting) → IsReached start image bound j s ws → IsReached start image (min bound j) j s ws
-  reached_min bound j s ws r = elim (cases_lt j bound) [
-    | inl below ↦ let e : min bound j ≡ j = omega (arith, below) in reached_low (min bound j) bound j s ws (omega (arith, e)) (omega (arith, e, below)) r
-    | inr above ↦ let e : min bound j ≡ bound = omega (arith, above) in subst (λ b. IsReached start image b j s ws) (sym e) r
+  -- or to a position that is not before
+  reached_min : (bound at j : ℕ) (s : State) (ws : List Waiting) → j ≤ at → IsReached start image bound j s ws → IsReached start image (min bound at) j s ws
+  reached_min bound at j s ws l r = elim (cases_lt at bound) [
+    | inl below ↦ let e : min bound at ≡ at = omega (arith, below) in reached_low (min bound at) bound j s ws (omega (arith, e, l)) (omega (arith, e, below)) r
+    | inr above ↦ let e : min bound at ≡ bound = omega (arith, above) in subst (λ b. IsReached start image b j s ws) (sym e) r
   ]
 
-  pub reached_after : (first : Option ℕ) (bound j : ℕ) (s : State) (ws : List Waiting) → IsReached start image bound j s ws → IsReached start image (bound_after first bound j) j s ws
-  reached_after None bound j s ws r = r
-  reached_after (Some k) bound j s ws r = reached_min bound j s ws r
+  pub not_before : (k span j : ℕ) → j ≤ asked_below k span j
+  not_before k span j = go (nat_lt span k)
+    where
+      go : (b : Bool) → j ≤ cond b (j + 1) j
+      go true = omega arith
+      go false = omega arith
 
-  pub late_after : (first : Option ℕ) (bound j i : ℕ) → IsLate start image (bound_after first bound j) i → IsLate start image bound i
-  late_after None bound j i l = l
-  late_after (Some k) bound j i l = record { within = (let b = l.within in omega (arith, b)); going = l.going; fails = l.fails; first = l.first }
+  pub reached_after : (first : Option ℕ) (span bound j : ℕ) (s : State) (ws : List Waiting) → IsReached start image bound j s ws → IsReached start image (bound_after first span bound j) j s ws
+  reached_after None span bound j s ws r = r
+  reached_after (Some k) span bound j s ws r = reached_min bound (asked_below k span j) j s ws (not_before k span j) r
+
+  pub late_after : (first : Option ℕ) (span bound j i : ℕ) → IsLate start image (bound_after first span bound j) i → IsLate start image bound i
+  late_after None span bound j i l = l
+  late_after (Some k) span bound j i l = record { within = (let b = l.within in omega (arith, b)); going = l.going; fails = l.fails; first = l.first }
 
   -- ---- one turn
 
@@ -129,12 +136,12 @@ module _ (start : State) (image : Distilled) where
         first = λ g l. t.4 g (omega (arith, l, same));
       }
 
-  next_waits : (bound j : ℕ) → waiting start image bound (suc j) ≡ passed_on (machine.stops (arch_at start j)) (is_anchor_pc image (pc_at start (suc j))) (at_hand start image bound j)
+  next_waits : (bound j : ℕ) → waiting start image bound (suc j) ≡ passed_on ((task_machine image).stops (arch_at start j)) (is_anchor_pc image (pc_at start (suc j))) (at_hand start image bound j)
   unfolding waiting
   next_waits bound j = refl
 
   pub turned_on : (bound j k : ℕ) (s t : State) (old new : List Waiting) (stops : Bool) → IsReached start image bound j s old → is_over s ≡ false
-      → t ≡ step s → k ≡ j + 1 → stops ≡ machine.stops s.arch
+      → t ≡ step s → k ≡ j + 1 → stops ≡ (task_machine image).stops s.arch
       → HasTurned image.limit bound j (count_of image s.arch.pc) stops (is_anchor_pc image t.arch.pc) old new None → IsReached start image bound k t new
   turned_on bound j k s t old new stops r going t_is k_is stops_are h =
       let place : k ≡ suc j = omega (arith, k_is) in
@@ -144,9 +151,9 @@ module _ (start : State) (image : Distilled) where
       subst (λ n. IsReached start image bound n t new) (sym place) (record {
         state = there;
         list =
-            h.1 ∙ ap (λ b. passed_on b (is_anchor_pc image t.arch.pc) (joined bound j (count_of image s.arch.pc) old)) (stops_are ∙ ap (λ (u : State). machine.stops u.arch) r.state)
-            ∙ ap (λ (u : State). passed_on (machine.stops (arch_at start j)) (is_anchor_pc image u.arch.pc) (joined bound j (count_of image s.arch.pc) old)) there
-            ∙ ap (passed_on (machine.stops (arch_at start j)) (is_anchor_pc image (pc_at start (suc j)))) (hand_is bound j s old r)
+            h.1 ∙ ap (λ b. passed_on b (is_anchor_pc image t.arch.pc) (joined bound j (count_of image s.arch.pc) old)) (stops_are ∙ ap (λ (u : State). (task_machine image).stops u.arch) r.state)
+            ∙ ap (λ (u : State). passed_on ((task_machine image).stops (arch_at start j)) (is_anchor_pc image u.arch.pc) (joined bound j (count_of image s.arch.pc) old)) there
+            ∙ ap (passed_on ((task_machine image).stops (arch_at start j)) (is_anchor_pc image (pc_at start (suc j)))) (hand_is bound j s old r)
             ∙ sym (next_waits bound j);
         searched = record {
           going = λ i l. ⊎_elim (λ (e : i ≡ j). subst (λ n. is_over (state_at start n) ≡ false) (sym e) here) (λ (ne : i ≡ j → ⊥). r.searched.going i (omega (arith, l, ne))) (cases_eq i j);
@@ -177,8 +184,8 @@ module _ (start : State) (image : Distilled) where
   no_more_wait : (bound j : ℕ) → bound ≤ j → waiting start image bound j ≡ [] → waiting start image bound (suc j) ≡ []
   no_more_wait bound j past none =
       next_waits bound j
-      ∙ ap (passed_on (machine.stops (arch_at start j)) (is_anchor_pc image (pc_at start (suc j)))) (stays (count_of image (pc_at start j)) ∙ none)
-      ∙ empty (machine.stops (arch_at start j)) (is_anchor_pc image (pc_at start (suc j)))
+      ∙ ap (passed_on ((task_machine image).stops (arch_at start j)) (is_anchor_pc image (pc_at start (suc j)))) (stays (count_of image (pc_at start j)) ∙ none)
+      ∙ empty ((task_machine image).stops (arch_at start j)) (is_anchor_pc image (pc_at start (suc j)))
     where
       stays : (o : Option ℕ) → joined bound j o (waiting start image bound j) ≡ waiting start image bound j
       stays None = refl
@@ -255,41 +262,41 @@ module _ (start : State) (image : Distilled) where
   clean_first j j_is i l going = absurd (omega (arith, l, j_is))
 
   -- where Span turns out to fail
-  pub passed_late : IsImage image → (first : Option ℕ) (bound until j i : ℕ) (s : State) (old new : List Waiting) (stops arrives : Bool) → until ≡ bound_after first bound j
+  pub passed_late : IsImage image → (first : Option ℕ) (span bound until j i : ℕ) (s : State) (old new : List Waiting) (stops arrives : Bool) → until ≡ bound_after first span bound j
       → IsReached start image bound j s old → IsClean start image j → is_over s ≡ false
       → HasTurned image.limit until j (count_of image s.arch.pc) stops arrives old new (Some i) → IsLate start image bound i × IsClean start image (suc i)
-  passed_late valid first bound until j i s old new stops arrives until_is r clean going h =
-      let turned : HasTurned image.limit (bound_after first bound j) j (count_of image s.arch.pc) stops arrives old new (Some i) =
+  passed_late valid first span bound until j i s old new stops arrives until_is r clean going h =
+      let turned : HasTurned image.limit (bound_after first span bound j) j (count_of image s.arch.pc) stops arrives old new (Some i) =
       subst (λ b. HasTurned image.limit b j (count_of image s.arch.pc) stops arrives old new (Some i)) until_is h in
       let place = turned.0 in
       let long = valid.limit.0 in (
-        late_after first bound j i (turned_late valid (bound_after first bound j) j i s old new stops arrives (reached_after first bound j s old r) going turned),
+        late_after first span bound j i (turned_late valid (bound_after first span bound j) j i s old new stops arrives (reached_after first span bound j s old r) going turned),
         clean_less (suc i) j (omega (arith, place, long)) clean,
       )
 
   -- where another assumption fails
-  pub passed_failed : (first : Option ℕ) (budget bound until j p k : ℕ) (s t : State) (old new : List Waiting) (stops : Bool) → until ≡ bound_after first bound j → first ≡ Some k
+  pub passed_failed : (first : Option ℕ) (span budget bound until j p k : ℕ) (s t : State) (old new : List Waiting) (stops : Bool) → until ≡ bound_after first span bound j → first ≡ Some k
       → first ≡ first_failing start image j → IsReached start image bound j s old → IsClean start image j → is_over s ≡ false → j < budget
-      → t ≡ step s → p ≡ j + 1 → stops ≡ machine.stops s.arch
-      → HasTurned image.limit until j (count_of image s.arch.pc) stops (is_anchor_pc image t.arch.pc) old new None → IsFailed start image budget bound p t new k
-  passed_failed first budget bound until j p k s t old new stops until_is first_is fails r clean going below t_is p_is stops_are h = record {
+      → t ≡ step s → p ≡ j + 1 → stops ≡ (task_machine image).stops s.arch
+      → HasTurned image.limit until j (count_of image s.arch.pc) stops (is_anchor_pc image t.arch.pc) old new None → IsFailed start image budget bound span p t new k
+  passed_failed first span budget bound until j p k s t old new stops until_is first_is fails r clean going below t_is p_is stops_are h = record {
     place = j;
     passed = omega (arith, p_is);
     below = below;
     going = ap is_over (sym r.state) ∙ going;
     clean = clean;
     fails = sym fails ∙ first_is;
-    reached = turned_on (min bound j) j p s t old new stops (reached_min bound j s old r) going t_is p_is stops_are
-        (subst (λ b. HasTurned image.limit b j (count_of image s.arch.pc) stops (is_anchor_pc image t.arch.pc) old new None) (until_is ∙ ap (λ f. bound_after f bound j) first_is) h);
+    reached = turned_on (min bound (asked_below k span j)) j p s t old new stops (reached_min bound (asked_below k span j) j s old (not_before k span j) r) going t_is p_is stops_are
+        (subst (λ b. HasTurned image.limit b j (count_of image s.arch.pc) stops (is_anchor_pc image t.arch.pc) old new None) (until_is ∙ ap (λ f. bound_after f span bound j) first_is) h);
   }
 
   -- where none does
-  pub passed_on_so : (first : Option ℕ) (bound until j p : ℕ) (s t : State) (old new : List Waiting) (stops : Bool) → until ≡ bound_after first bound j → first ≡ None
+  pub passed_on_so : (first : Option ℕ) (span bound until j p : ℕ) (s t : State) (old new : List Waiting) (stops : Bool) → until ≡ bound_after first span bound j → first ≡ None
       → first ≡ first_failing start image j → IsReached start image bound j s old → IsClean start image j → is_over s ≡ false
-      → t ≡ step s → p ≡ j + 1 → stops ≡ machine.stops s.arch
+      → t ≡ step s → p ≡ j + 1 → stops ≡ (task_machine image).stops s.arch
       → HasTurned image.limit until j (count_of image s.arch.pc) stops (is_anchor_pc image t.arch.pc) old new None → IsReached start image bound p t new × IsClean start image p
-  passed_on_so first bound until j p s t old new stops until_is first_is fails r clean going t_is p_is stops_are h = (
+  passed_on_so first span bound until j p s t old new stops until_is first_is fails r clean going t_is p_is stops_are h = (
     turned_on bound j p s t old new stops r going t_is p_is stops_are
-        (subst (λ b. HasTurned image.limit b j (count_of image s.arch.pc) stops (is_anchor_pc image t.arch.pc) old new None) (until_is ∙ ap (λ f. bound_after f bound j) first_is) h),
+        (subst (λ b. HasTurned image.limit b j (count_of image s.arch.pc) stops (is_anchor_pc image t.arch.pc) old new None) (until_is ∙ ap (λ f. bound_after f span bound j) first_is) h),
     clean_on j p p_is clean (sym fails ∙ first_is),
   )

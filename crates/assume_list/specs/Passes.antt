@@ -1,5 +1,5 @@
 -- What is known of a run once it was looked at up to a position.
-use Rattle.std.specs.Prelude.{◌≡◌, ℕ, ◌+◌, ◌<◌, ◌≤◌, min, suc, Bool, false, true, List, [], Option, Some, None, ◌⊎◌}
+use Rattle.std.specs.Prelude.{◌≡◌, ℕ, ◌+◌, ◌<◌, ◌≤◌, min, suc, nat_lt, if◌then◌else◌, Bool, false, true, List, [], Option, Some, None, ◌⊎◌}
 use Rattle.cells.specs.Run.{State, is_over}
 use Rattle.dist_image.specs.Image.{Premise, Span, Distilled}
 use Rattle.fitting.specs.Fails.{state_at}
@@ -18,10 +18,15 @@ HasTurned limit bound position here stops arrives old new None =
     (is_overdue limit position (joined bound position here old) ≡ false) × (new ≡ passed_on stops arrives (joined bound position here old))
 HasTurned limit bound position here stops arrives old new (Some i) = (i + limit ≡ position) × (is_overdue limit position (joined bound position here old) ≡ true)
 
--- where another assumption fails at a position, only the anchors before it are waited for
-abbrev pub bound_after : Option ℕ → ℕ → ℕ → ℕ
-bound_after None bound position = bound
-bound_after (Some k) bound position = min bound position
+-- where the assumption of number k is the first but Span that fails at a position: below which position Span is asked about. It is
+-- asked about there too where it is listed before
+abbrev pub asked_below : ℕ → ℕ → ℕ → ℕ
+asked_below k span position = if nat_lt span k then position + 1 else position
+
+-- only the anchors are waited for at which Span is asked about
+abbrev pub bound_after : Option ℕ → ℕ → ℕ → ℕ → ℕ
+bound_after None span bound position = bound
+bound_after (Some k) span bound position = min bound (asked_below k span position)
 
 abbrev pub is_span : Premise → Bool
 is_span Span = true
@@ -56,14 +61,14 @@ module _ (start : State) (image : Distilled) where
     pub first : (h : ℕ) → h < i → span_fails start image h ≡ false
 
   -- position j is the first at which a listed assumption but Span fails, and k is the number of the first one there
-  pub record IsFailed (budget bound p : ℕ) (s : State) (ws : List Waiting) (k : ℕ) : Type 0 where
+  pub record IsFailed (budget bound span p : ℕ) (s : State) (ws : List Waiting) (k : ℕ) : Type 0 where
     pub place : ℕ
     pub passed : p ≡ suc place
     pub below : place < budget
     pub going : is_over (state_at start place) ≡ false
     pub clean : IsClean place
     pub fails : first_failing start image place ≡ Some k
-    pub reached : IsReached (min bound place) p s ws
+    pub reached : IsReached (min bound (asked_below k span place)) p s ws
 
   pub record IsThrough (budget bound p : ℕ) (s : State) (ws : List Waiting) : Type 0 where
     pub within : p ≤ budget
@@ -72,10 +77,10 @@ module _ (start : State) (image : Distilled) where
     pub reached : IsReached bound p s ws
 
   -- what a pass over the positions below a budget came to, at position p
-  abbrev pub HasPassed : ℕ → ℕ → ℕ → State → List Waiting → Passed → Type 0
-  HasPassed budget bound p s ws (Late i) = IsLate bound i × IsClean (suc i)
-  HasPassed budget bound p s ws (Failed k) = IsFailed budget bound p s ws k
-  HasPassed budget bound p s ws Through = IsThrough budget bound p s ws
+  abbrev pub HasPassed : ℕ → ℕ → ℕ → ℕ → State → List Waiting → Passed → Type 0
+  HasPassed budget bound span p s ws (Late i) = IsLate bound i × IsClean (suc i)
+  HasPassed budget bound span p s ws (Failed k) = IsFailed budget bound span p s ws k
+  HasPassed budget bound span p s ws Through = IsThrough budget bound p s ws
 
   -- at each of the positions from `from` to before `to` that are past the bound, an anchor waits
   abbrev pub IsAwake : ℕ → ℕ → ℕ → Type 0

@@ -1,13 +1,14 @@
 -- What is seen of a position, and the marks after its step.
-use Rattle.std.specs.Prelude.{ℕ, ◌+◌, Bool, true, false, List, if◌then◌else◌}
+use Rattle.std.specs.Prelude.{ℕ, ◌+◌, Bool, true, false, not, ◌&&◌, List, if◌then◌else◌}
 use Rattle.rv_run.specs.Effect.{is_store}
 use Rattle.rv_word.specs.declared.inst.Inst.{Inst}
-use Rattle.rv_word.specs.declared.inst.Inst.TheVariants.{Ecall}
 use Rattle.rv_word.specs.Meaning.{meaning}
+use Rattle.cells.specs.Cells.{Arch, value}
 use Rattle.cells.specs.Run.{State}
+use Rattle.rv_run.specs.Prints.{is_call, is_task_call}
 use Rattle.rv_run.specs.Machine.{word_at}
 use Rattle.rv_run.specs.Calls.{step}
-use Rattle.dist_image.specs.Image.{Premise, Code, Within, Distilled}
+use Rattle.dist_image.specs.Image.{Premise, Code, Within, Same, Distilled}
 use Rattle.fitting.specs.Claims.{among}
 use Rattle.profile_laws.specs.Tally.{bytes_in, stored}
 use Rattle.assume_laws.specs.Looks.{Look, look}
@@ -24,6 +25,7 @@ seen v marks = record {
   analysed = v.analysed;
   next = v.next;
   stays = v.stays;
+  load = v.load;
   marks = marks;
 }
 
@@ -35,9 +37,13 @@ abbrev pub is_within : Premise → Bool
 is_within Within = true
 is_within _ = false
 
-abbrev pub is_call : Inst → Bool
-is_call Ecall = true
-is_call _ = false
+abbrev pub is_same : Premise → Bool
+is_same (Same at value) = true
+is_same _ = false
+
+-- a call that no task does, where one may print at the pcs that pass
+abbrev pub is_stopping_call : (ℕ → Bool) → Inst → Arch → Bool
+is_stopping_call prints i s = is_call i && not (is_task_call prints i s.pc (value s))
 
 -- of a state, where `word` is the program's word at its pc, and each byte has a mark
 abbrev pub look_in : Distilled → ℕ → State → (ℕ → ℕ) → Look

@@ -2,6 +2,7 @@
 use Rattle.std.specs.Prelude.{◌≡◌, ℕ, Bool}
 use Rattle.cells.specs.Run.{State}
 use Rattle.dist_image.specs.Image.{Distilled}
+use Rattle.rv_run.specs.Prints.{nowhere}
 use Rattle.fitting.specs.Fits.{is_analysed}
 use Rattle.fitting.specs.Fails.{state_at}
 use Rattle.profile_laws.specs.Tally.{kept}
@@ -12,5 +13,5 @@ pub record IsWatched (start : State) (image : Distilled) (j : ℕ) (s : State) (
   pub state : s ≡ state_at start j
   pub words : program ≡ start.arch.mem
   pub claimed : dead ≡ dead_in image.assumptions
-  pub marked : (a : ℕ) → marks a ≡ counted dead ((kept start j).writers a)
+  pub marked : (a : ℕ) → marks a ≡ counted dead ((kept nowhere start j).writers a)
   pub noted : analysed ≡ is_analysed image s.arch.pc

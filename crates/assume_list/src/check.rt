@@ -9,12 +9,12 @@ ghost use Rattle.dist_image.specs.Image.{premise, IsImage};
 ghost use Rattle.memory_access.specs.Shadows.{mark_at};
 ghost use Rattle.assume_laws.specs.Looks.{first_from};
 ghost use Rattle.assume_list.specs.Marks.{dead_in};
-ghost use Rattle.assume_list.specs.Sights.{is_code, is_within};
+ghost use Rattle.assume_list.specs.Sights.{is_code, is_within, is_same};
 ghost use Rattle.assume_list.specs.Watched.{IsWatched};
 ghost use Rattle.assume_list.specs.Passes.{is_span, bound_of, or_late};
 ghost use Rattle.assume_list.specs.Verdicts.{IsVerdict};
 
-use crate::passing::{Passed, pass, wait};
+use crate::passing::{Asked, Passed, asked_below, pass, wait};
 use crate::pcs::Pcs;
 use crate::verdict::Verdict;
 use crate::waits::Waits;
@@ -78,6 +78,7 @@ fn judge<M: Memory>(
     requires position { watch.old.machine.position ≡ 0 }
     requires code { watch.old.listed.code ≡ list_any is_code image.now.assumptions }
     requires within { watch.old.listed.within ≡ list_any is_within image.now.assumptions }
+    requires same { watch.old.listed.same ≡ list_any is_same image.now.assumptions }
     requires watched { IsWatched (state_of M.at watch.old.machine) image.now watch.old.machine.position (state_of M.at watch.old.machine) (M.at watch.old.program) (dead_in image.now.assumptions) (mark_at M.at watch.old.marks) watch.old.analysed }
     ensures verdict { IfOk result (IsVerdict (state_of M.at watch.old.machine) image.now budget) }
     ensures steps { watch.new.machine.position ≤ budget + image.now.limit }
@@ -87,7 +88,8 @@ fn judge<M: Memory>(
     let span = span.unwrap_or(0);
     let mut pcs = Pcs::new(alloc, image)?;
     let mut waits = Waits::new(alloc, image.limit);
-    let passed = pass(alloc, watch, &mut waits, image, &mut pcs, budget, bound)?;
+    let asked = Asked { span, bound };
+    let passed = pass(alloc, watch, &mut waits, image, &mut pcs, budget, asked)?;
     let reached = watch.machine.position;
     match passed {
         Passed::Late(position) => Ok(Verdict::Broken {
@@ -96,15 +98,9 @@ fn judge<M: Memory>(
         }),
         Passed::Failed(which) => {
             let position = reached - 1;
+            let until = bound.min(asked_below(which, span, position));
             let machine = &mut watch.machine;
-            let late = wait(
-                alloc,
-                machine,
-                &mut waits,
-                image,
-                &mut pcs,
-                bound.min(position),
-            )?;
+            let late = wait(alloc, machine, &mut waits, image, &mut pcs, until)?;
             Ok(or_late(late, span, Verdict::Broken { position, which }))
         }
         Passed::Through => {

@@ -3,22 +3,22 @@
 ghost use Rattle.std.specs.Prelude.{◌≡◌, ◌+◌, ◌-◌, ◌<◌, ◌≤◌, ◌^◌, max, [], length, ◌&&◌, ◌||◌, not, nat_lt, OnOk, IfOk, IsNone};
 ghost use Rattle.std.specs.List.{list_any};
 ghost use Rattle.cells.specs.Run.{State, is_end};
-ghost use Rattle.rv_run.specs.Machine.{machine as plain, word_at};
+ghost use Rattle.rv_run.specs.Machine.{word_at};
 ghost use Rattle.rv_word.specs.Meaning.{meaning};
-ghost use Rattle.assume_list.specs.Sights.{is_code, is_within, is_call};
+ghost use Rattle.assume_list.specs.Sights.{is_code, is_within, is_same, is_stopping_call};
 ghost use Rattle.rv_run.specs.Calls.{step as next_state};
 ghost use Rattle.seq_machine.specs.States.{arch_at, state_of};
-ghost use Rattle.dist_image.specs.Image.{IsImage};
-ghost use Rattle.image_world.specs.World.{count_of};
+ghost use Rattle.dist_image.specs.Image.{IsImage, prints_at};
+ghost use Rattle.image_world.specs.World.{task_machine, count_of};
 ghost use Rattle.fitting.specs.Fits.{is_anchor_pc};
 ghost use Rattle.memory_access.specs.Shadows.{mark_at};
 ghost use Rattle.assume_list.specs.Watched.{IsWatched};
 ghost use Rattle.assume_list.specs.Marks.{dead_in};
 ghost use Rattle.assume_list.specs.Places.{AreKnown};
 ghost use Rattle.assume_list.specs.Shown.{IsEarly, shown};
-ghost use Rattle.assume_list.specs.Passes.{HasTurned, bound_after, HasPassed, IsReached, IsAwaited, IsAwake};
+ghost use Rattle.assume_list.specs.Passes.{HasTurned, asked_below, bound_after, HasPassed, IsReached, IsAwaited, IsAwake};
 
-use crate::instruction::is_call;
+use crate::instruction::is_stopping_call;
 use crate::pcs::Pcs;
 use crate::waits::Waits;
 use crate::watch::{Watch, stops};
@@ -39,6 +39,13 @@ pub(crate) enum Passed {
     Through,
 }
 
+/// The number of Span, and the position below which it is asked about: 0 where it is not listed.
+#[derive(Clone, Copy)]
+pub(crate) struct Asked {
+    pub span: u32,
+    pub bound: u64,
+}
+
 /// Where a step began and led.
 #[derive(Clone, Copy)]
 struct Turn {
@@ -55,13 +62,23 @@ fn goes_on<M: Memory>(machine: &Machine<M>, last: u64) -> bool
     machine.end.is_none() && machine.position < last
 }
 
-// Only the anchors before a position at which another assumption fails are waited for.
-fn bound_after(first: Option<u32>, bound: u64, position: u64) -> u64
-    ensures { result ≡ bound_after first bound position }
+/// Where the assumption of number `which` is the first other than Span to fail at a position: the position below which Span is
+/// asked about. It is asked about at the position itself where it is listed before.
+pub(crate) fn asked_below(which: u32, span: u32, position: u64) -> u64
+    requires { position < 2 ^ 63 }
+    ensures { result ≡ asked_below which span position }
+{
+    if span < which { position + 1 } else { position }
+}
+
+// Only the anchors are waited for at which Span is asked about.
+fn bound_after(first: Option<u32>, asked: Asked, position: u64) -> u64
+    requires { position < 2 ^ 63 }
+    ensures { result ≡ bound_after first asked.span asked.bound position }
 {
     match first {
-        None => bound,
-        Some(_) => bound.min(position),
+        None => asked.bound,
+        Some(which) => asked.bound.min(asked_below(which, asked.span, position)),
     }
 }
 
@@ -93,8 +110,8 @@ fn take_turn(
     Ok(None)
 }
 
-/// Looks at the positions below a budget, while none is found at which an assumption fails. Of Span it is told where it
-/// fails below the bound.
+/// Looks at the positions below a budget, while none is found at which an assumption fails. Of Span it is told where it fails
+/// below its bound.
 pub(crate) fn pass<M: Memory>(
     alloc: Global,
     watch: &mut Watch<M>,
@@ -102,21 +119,22 @@ pub(crate) fn pass<M: Memory>(
     image: &Image,
     pcs: &mut Pcs,
     budget: u64,
-    bound: u64,
+    asked: Asked,
 ) -> Result<Passed, AllocError>
     requires image { IsImage image.now }
     requires known { AreKnown pcs.old image.now }
     requires few { budget ≤ 10 ^ 12 }
-    requires bound { bound ≤ budget }
+    requires bound { asked.bound ≤ budget }
     requires position { watch.old.machine.position ≡ 0 }
     requires code { watch.old.listed.code ≡ list_any is_code image.now.assumptions }
     requires within { watch.old.listed.within ≡ list_any is_within image.now.assumptions }
+    requires same { watch.old.listed.same ≡ list_any is_same image.now.assumptions }
     requires watched { IsWatched (state_of M.at watch.old.machine) image.now watch.old.machine.position (state_of M.at watch.old.machine) (M.at watch.old.program) (dead_in image.now.assumptions) (mark_at M.at watch.old.marks) watch.old.analysed }
     requires none { shown waits.old ≡ [] }
     requires arrivals { waits.old.arrivals ≡ 0 }
     requires early { IsEarly waits.old.due waits.old.limit (shown waits.old) }
     requires limit { waits.old.limit ≡ image.now.limit }
-    ensures passed { IfOk result (HasPassed (state_of M.at watch.old.machine) image.now budget bound watch.new.machine.position (state_of M.at watch.new.machine) (shown waits.new)) }
+    ensures passed { IfOk result (HasPassed (state_of M.at watch.old.machine) image.now budget asked.bound asked.span watch.new.machine.position (state_of M.at watch.new.machine) (shown waits.new)) }
     ensures position { watch.new.machine.position ≤ budget }
     ensures known { AreKnown pcs.new image.now }
     ensures arrivals { OnOk result (waits.new.arrivals ≤ watch.new.machine.position) }
@@ -133,7 +151,7 @@ pub(crate) fn pass<M: Memory>(
             stops: seen.stops,
             next: watch.machine.arch.pc,
         };
-        let until = bound_after(seen.first, bound, position);
+        let until = bound_after(seen.first, asked, position);
         match take_turn(waits, image, pcs, until, turn)? {
             Some(since) => return Ok(Passed::Late(since)),
             None => {}
@@ -146,26 +164,39 @@ pub(crate) fn pass<M: Memory>(
     Ok(Passed::Through)
 }
 
-// Whether the instruction at the machine's pc is a call.
-fn is_at_call<M: Memory>(machine: &mut Machine<M>) -> bool
+// Whether the instruction at the machine's pc is a call that no task does.
+fn is_at_call<M: Memory>(machine: &mut Machine<M>, image: &Image, pcs: &mut Pcs) -> bool
+    requires image { IsImage image.now }
+    requires known { AreKnown pcs.old image.now }
     ensures state { state_of M.at machine.new ≡ state_of M.at machine.old }
     ensures position { machine.new.position ≡ machine.old.position }
-    ensures calls { result ≡ is_call (meaning (word_at (arch_at M.at machine.old.arch))) }
+    ensures known { AreKnown pcs.new image.now }
+    ensures calls { result ≡ is_stopping_call (prints_at image.now) (meaning (word_at (arch_at M.at machine.old.arch))) (arch_at M.at machine.old.arch) }
 {
     let pc = machine.arch.pc;
-    is_call(decode(machine.arch.mem.fetch(pc)))
+    let inst = decode(machine.arch.mem.fetch(pc));
+    let asks = pcs.asks(image, inst, pc);
+    is_stopping_call(asks, inst, &machine.arch)
 }
 
-// A step, without a look. Answers whether it is a call or ends the run.
-fn step_on<M: Memory>(alloc: Global, machine: &mut Machine<M>) -> Result<bool, AllocError>
+// A step, without a look. Answers whether it is a call that no task does, or ends the run.
+fn step_on<M: Memory>(
+    alloc: Global,
+    machine: &mut Machine<M>,
+    image: &Image,
+    pcs: &mut Pcs,
+) -> Result<bool, AllocError>
+    requires image { IsImage image.now }
+    requires known { AreKnown pcs.old image.now }
     requires running { IsNone machine.old.end }
     requires room { machine.old.position < 2 ^ 64 - 1 }
     ensures state { OnOk result (state_of M.at machine.new ≡ next_state (state_of M.at machine.old)) }
     ensures position { OnOk result (machine.new.position ≡ machine.old.position + 1) }
     ensures near { machine.new.position ≤ machine.old.position + 1 }
-    ensures stops { IfOk result (λ stops. stops ≡ plain.stops (arch_at M.at machine.old.arch)) }
+    ensures known { AreKnown pcs.new image.now }
+    ensures stops { IfOk result (λ stops. stops ≡ (task_machine image.now).stops (arch_at M.at machine.old.arch)) }
 {
-    let calls = is_at_call(machine);
+    let calls = is_at_call(machine, image, pcs);
     machine.one(alloc)?;
     Ok(stops(calls, machine.end))
 }
@@ -205,7 +236,7 @@ pub(crate) fn wait<M: Memory>(
     while is_awaited(machine, waits, bound, last) {
         let position = machine.position;
         let pc = machine.arch.pc;
-        let stops = step_on(alloc, machine)?;
+        let stops = step_on(alloc, machine, image, pcs)?;
         let turn = Turn {
             position,
             pc,

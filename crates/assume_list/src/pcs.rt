@@ -1,14 +1,17 @@
 //! What an image says of addresses, with the answers kept for those that were asked about last.
 
 ghost use Rattle.std.specs.Prelude.{◌≡◌, ℕ, ◌<◌, ◌≤◌, Some, not, nat_eq, IfOk};
-ghost use Rattle.dist_image.specs.Image.{IsImage};
+ghost use Rattle.dist_image.specs.Image.{IsImage, prints_at};
 ghost use Rattle.image_world.specs.World.{count_of};
 ghost use Rattle.fitting.specs.Fits.{is_analysed};
+ghost use Rattle.rv_run.specs.Prints.{asks};
 ghost use Rattle.assume_list.specs.Marks.{dead_in};
 ghost use Rattle.assume_list.specs.Places.{Tells, AreKnown};
 
+use crate::instruction::is_call;
 use crate::sight::{claims_dead, count_of, is_analysed};
-use dist_image::Image;
+use dist_image::{Image, prints_at};
+use rv_word::Inst;
 use std::alloc::{AllocError, Global};
 
 /// How many answers are kept: one for the low bits of an address.
@@ -22,6 +25,8 @@ pub(crate) struct Said {
     pub noted: bool,
     /// The count of the anchor there, if there is one.
     pub count: Option<u32>,
+    /// A task may print there.
+    pub prints: bool,
     /// A store there is claimed dead.
     pub dead: bool,
 }
@@ -42,6 +47,7 @@ fn look_up(image: &Image, pc: u32) -> Said
         pc,
         noted: is_analysed(image, pc),
         count: count_of(image, pc),
+        prints: prints_at(image, pc),
         dead: claims_dead(image, pc),
     }
 }
@@ -99,6 +105,17 @@ impl Pcs {
         ensures noted { result ≡ is_analysed image.now pc }
     {
         self.ask(image, pc).noted
+    }
+
+    /// Whether the instruction at an address is a call where a task may print.
+    #[inline(always)]
+    pub(crate) fn asks(&mut self, image: &Image, inst: Inst, pc: u32) -> bool
+        requires image { IsImage image.now }
+        requires known { AreKnown self.old image.now }
+        ensures known { AreKnown self.new image.now }
+        ensures asks { result ≡ asks (prints_at image.now) inst pc }
+    {
+        is_call(inst) && self.ask(image, pc).prints
     }
 
     /// Whether the image claims that a store at an address is dead.

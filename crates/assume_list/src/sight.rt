@@ -3,31 +3,33 @@
 ghost use Rattle.std.specs.Prelude.{◌≡◌, ℕ, ◌+◌, ◌*◌, ◌<◌, ◌≤◌, ◌^◌, ◌&&◌, ◌||◌, not, nat_eq, Bool, false, List, Some, All, map, length, slice_get};
 ghost use Rattle.std.specs.List.{list_any};
 ghost use Rattle.std.specs.List.Sorted.{IsStrictlyIncreasing};
-ghost use Rattle.dist_image.specs.Image.{Premise, Cut, Targets, premise, key_of, IsPremise, IsImage};
+ghost use Rattle.dist_image.specs.Image.{Premise, Cut, Targets, Same, premise, key_of, IsPremise, IsImage};
 ghost use Rattle.fitting.specs.Claims.{among};
 ghost use Rattle.fitting.specs.Fits.{is_analysed};
 ghost use Rattle.image_world.specs.World.{count_of};
-ghost use Rattle.assume_laws.specs.Looks.{fails_by, first_from};
+ghost use Rattle.assume_laws.specs.Looks.{is_other, fails_by, first_from};
 ghost use Rattle.assume_list.specs.Marks.{dead_in};
-ghost use Rattle.assume_list.specs.Sights.{seen, is_code, is_within};
+ghost use Rattle.assume_list.specs.Sights.{seen, is_code, is_within, is_same};
 
 use dist_image::{Assumption, Image, anchor_at, slot_of};
 
 /// The step from one kind of assumption to the next, in the order of a list.
 const KIND: u64 = 4_294_967_296;
 
-/// Whether an image lists the assumptions that speak of no single pc, but for Span.
+/// Whether an image lists the assumptions that speak of no single pc, but for Span, and whether it lists one of a value that a
+/// load has.
 #[derive(Clone, Copy)]
 pub(crate) struct Listed {
     pub code: bool,
     pub within: bool,
+    pub same: bool,
 }
 
 /// What is looked at of a position, beside the marks of the bytes that are read there.
 #[derive(Clone, Copy)]
 pub(crate) struct Sight {
     pub pc: u32,
-    /// The instruction is a call, or ends the run.
+    /// The instruction is a call that no task does, or ends the run.
     pub stops: bool,
     /// Whether the condition of a branch holds, where the instruction is a branch.
     pub side: Option<bool>,
@@ -40,6 +42,8 @@ pub(crate) struct Sight {
     pub next: u32,
     /// The pc afterwards is analysed.
     pub stays: bool,
+    /// What a load loads, extended to 32 bits.
+    pub load: Option<u32>,
 }
 
 // Whether a number is in a list whose numbers rise.
@@ -80,6 +84,16 @@ fn is_marked(marks: &[u32], at: u32) -> bool
     false
 }
 
+// Whether another value than this one is loaded.
+fn is_other(value: u32, load: Option<u32>) -> bool
+    ensures { result ≡ is_other value load }
+{
+    match load {
+        None => false,
+        Some(loaded) => loaded != value,
+    }
+}
+
 // Whether an assumption other than Span fails.
 fn fails(sight: &Sight, marks: &[u32], x: &Assumption) -> bool
     requires { IsPremise (premise x.now) }
@@ -96,6 +110,7 @@ fn fails(sight: &Sight, marks: &[u32], x: &Assumption) -> bool
         Assumption::Code => sight.analysed && sight.changed,
         Assumption::Within => sight.analysed && !sight.stops && !sight.stays,
         Assumption::Span => false,
+        Assumption::Same { at, value } => sight.pc == *at && is_other(*value, sight.load),
     }
 }
 
@@ -125,6 +140,7 @@ fn key_of(x: &Assumption) -> u64
         Assumption::Code => 3 * KIND,
         Assumption::Within => 4 * KIND,
         Assumption::Span => 5 * KIND,
+        Assumption::Same { at, .. } => 6 * KIND + u64::from(*at),
     }
 }
 
@@ -173,6 +189,19 @@ fn targets_fail(sight: &Sight, marks: &[u32], image: &Image) -> bool
     keyed_fails(sight, marks, image, KIND + u64::from(sight.pc))
 }
 
+// Whether the value of a load fails, where one is listed at all.
+fn value_fails(sight: &Sight, marks: &[u32], image: &Image, listed: bool) -> bool
+    requires image { IsImage image.now }
+    requires listed { listed ≡ list_any is_same image.now.assumptions }
+    ensures { result ≡ false → (k at value : ℕ) → slice_get image.now.assumptions k ≡ Some (Same at value) → fails_by (seen sight.now marks.now) (Same at value) ≡ false }
+{
+    let Sight { pc, load, .. } = *sight;
+    if !listed || load.is_none() {
+        return false;
+    }
+    keyed_fails(sight, marks, image, 6 * KIND + u64::from(pc))
+}
+
 // Whether one that speaks of no single pc fails.
 fn whole_fails(sight: &Sight, listed: Listed) -> bool
     ensures { result ≡ (sight.now.analysed && ((sight.now.changed && listed.code) || (not sight.now.stops && (not sight.now.stays && listed.within)))) }
@@ -191,12 +220,14 @@ pub(crate) fn first_failing(
     requires image { IsImage image.now }
     requires code { listed.code ≡ list_any is_code image.now.assumptions }
     requires within { listed.within ≡ list_any is_within image.now.assumptions }
+    requires same { listed.same ≡ list_any is_same image.now.assumptions }
     ensures { result ≡ first_from (fails_by (seen sight.now marks.now)) 0 image.now.assumptions }
 {
     if marks.is_empty()
         && !whole_fails(sight, listed)
         && !cut_fails(sight, marks, image)
         && !targets_fail(sight, marks, image)
+        && !value_fails(sight, marks, image, listed.same)
     {
         return None;
     }
@@ -227,14 +258,28 @@ fn lists_within(xs: &[Assumption]) -> bool
     false
 }
 
-/// Which assumptions of no single pc are listed.
+// Whether an entry of a list is Same.
+fn lists_same(xs: &[Assumption]) -> bool
+    ensures { result ≡ list_any is_same (map premise xs.now) }
+{
+    for x in xs {
+        if matches!(x, Assumption::Same { .. }) {
+            return true;
+        }
+    }
+    false
+}
+
+/// Which assumptions of no single pc are listed, and whether one of a load's value is.
 pub(crate) fn look_up(image: &Image) -> Listed
     requires { IsImage image.now }
     ensures code { result.code ≡ list_any is_code image.now.assumptions }
     ensures within { result.within ≡ list_any is_within image.now.assumptions }
+    ensures same { result.same ≡ list_any is_same image.now.assumptions }
 {
     Listed {
         code: lists_code(&image.assumptions),
         within: lists_within(&image.assumptions),
+        same: lists_same(&image.assumptions),
     }
 }

@@ -6,12 +6,13 @@ ghost use Rattle.std.specs.List.{list_any};
 ghost use Rattle.cells.specs.Bytes.{number};
 ghost use Rattle.cells.specs.Run.{is_end};
 ghost use Rattle.rv_word.specs.Meaning.{meaning};
-ghost use Rattle.rv_run.specs.Machine.{word_at, machine};
+ghost use Rattle.rv_run.specs.Machine.{word_at};
 ghost use Rattle.rv_run.specs.Calls.{step as next_state};
 ghost use Rattle.seq_machine.specs.States.{arch_at, state_of};
 ghost use Rattle.profile_laws.specs.Tally.{places, loaded, stored, is_register_jump};
-ghost use Rattle.dist_image.specs.Image.{IsImage};
-ghost use Rattle.assume_laws.specs.Looks.{side, fails_by, first_from};
+ghost use Rattle.dist_image.specs.Image.{IsImage, prints_at};
+ghost use Rattle.image_world.specs.World.{task_machine};
+ghost use Rattle.assume_laws.specs.Looks.{side, load_of, fails_by, first_from};
 ghost use Rattle.fitting.specs.Claims.{among};
 ghost use Rattle.fitting.specs.Fits.{is_analysed};
 ghost use Rattle.memory_access.specs.Spans.{span_of};
@@ -19,9 +20,9 @@ ghost use Rattle.memory_access.specs.Shadows.{mark_at};
 ghost use Rattle.assume_list.specs.Marks.{counted, dead_in};
 ghost use Rattle.assume_list.specs.Places.{AreKnown};
 ghost use Rattle.assume_list.specs.Watched.{IsWatched};
-ghost use Rattle.assume_list.specs.Sights.{is_code, is_within, is_call, look_in, marks_after};
+ghost use Rattle.assume_list.specs.Sights.{is_code, is_within, is_same, is_stopping_call, look_in, marks_after};
 
-use crate::instruction::{is_call, is_register_jump, side};
+use crate::instruction::{is_register_jump, is_stopping_call, load_of, side};
 use crate::pcs::Pcs;
 use crate::read::read_marks;
 use crate::sight::{Listed, Sight, first_failing, is_analysed, look_up};
@@ -36,25 +37,36 @@ use std::alloc::{AllocError, Global};
 /// What is known of a position before its step.
 #[derive(Clone, Copy)]
 struct Coming {
+    /// It is a call that no task does.
     calls: bool,
     side: Option<bool>,
     jumps: bool,
     changed: bool,
+    load: Option<u32>,
     loads: Span,
     puts: Span,
     stores: bool,
 }
 
 // What the instruction at the machine's pc is about to do.
-fn look_ahead<M: Memory>(machine: &mut Machine<M>, program: &mut M) -> Coming
+fn look_ahead<M: Memory>(
+    machine: &mut Machine<M>,
+    program: &mut M,
+    image: &Image,
+    pcs: &mut Pcs,
+) -> Coming
+    requires image { IsImage image.now }
+    requires known { AreKnown pcs.old image.now }
     ensures state { state_of M.at machine.new ≡ state_of M.at machine.old }
     ensures position { machine.new.position ≡ machine.old.position }
     ensures program { M.at program.new ≡ M.at program.old }
-    ensures calls { result.calls ≡ is_call (meaning (word_at (arch_at M.at machine.old.arch))) }
+    ensures known { AreKnown pcs.new image.now }
+    ensures calls { result.calls ≡ is_stopping_call (prints_at image.now) (meaning (word_at (arch_at M.at machine.old.arch))) (arch_at M.at machine.old.arch) }
     ensures side { result.side ≡ side (meaning (word_at (arch_at M.at machine.old.arch))) (arch_at M.at machine.old.arch) }
     ensures jumps { result.jumps ≡ is_register_jump (meaning (word_at (arch_at M.at machine.old.arch))) }
     ensures changed { result.changed ≡ not (nat_eq (word_at (arch_at M.at machine.old.arch)) (number 4 machine.old.arch.pc (M.at program.old))) }
-    ensures loads { span_of result.loads ≡ loaded (meaning (word_at (arch_at M.at machine.old.arch))) (arch_at M.at machine.old.arch) }
+    ensures load { result.load ≡ load_of (meaning (word_at (arch_at M.at machine.old.arch))) (arch_at M.at machine.old.arch) }
+    ensures loads { span_of result.loads ≡ loaded (prints_at image.now) (meaning (word_at (arch_at M.at machine.old.arch))) (arch_at M.at machine.old.arch) }
     ensures puts { span_of result.puts ≡ stored (meaning (word_at (arch_at M.at machine.old.arch))) (state_of M.at machine.old) }
     ensures few { result.puts.count ≤ 65_536 }
     ensures stores { result.stores ≡ is_store (meaning (word_at (arch_at M.at machine.old.arch))) }
@@ -62,18 +74,20 @@ fn look_ahead<M: Memory>(machine: &mut Machine<M>, program: &mut M) -> Coming
     let pc = machine.arch.pc;
     let word = machine.arch.mem.fetch(pc);
     let inst = decode(word);
+    let asks = pcs.asks(image, inst, pc);
     Coming {
-        calls: is_call(inst),
+        calls: is_stopping_call(asks, inst, &machine.arch),
         side: side(inst, &machine.arch),
         jumps: is_register_jump(inst),
         changed: word != program.fetch(pc),
-        loads: loaded(inst, &machine.arch),
+        load: load_of(inst, &machine.arch),
+        loads: loaded(asks, inst, &machine.arch),
         puts: stored(inst, machine),
         stores: is_store(inst),
     }
 }
 
-/// Whether a step is a call, or ended the run.
+/// Whether a step stops every task: it is a call that none does, or ended the run.
 pub(crate) fn stops(calls: bool, end: Option<End>) -> bool
     ensures { result ≡ (calls || is_end end) }
 {
@@ -113,7 +127,7 @@ fn mark<M: Memory>(
 /// What is seen of a step.
 #[derive(Clone, Copy)]
 pub(crate) struct Seen {
-    /// It is a call, or ends the run.
+    /// It is a call that no task does, or ends the run.
     pub stops: bool,
     /// The number of the first assumption other than Span that fails there.
     pub first: Option<u32>,
@@ -141,6 +155,7 @@ impl<M: Memory> Watch<M> {
         ensures position { IfOk result (λ w. w.machine.position ≡ 0) }
         ensures code { IfOk result (λ w. w.listed.code ≡ list_any is_code image.now.assumptions) }
         ensures within { IfOk result (λ w. w.listed.within ≡ list_any is_within image.now.assumptions) }
+        ensures same { IfOk result (λ w. w.listed.same ≡ list_any is_same image.now.assumptions) }
         ensures watched { IfOk result (λ w. IsWatched (state_of M.at w.machine) image.now w.machine.position (state_of M.at w.machine) (M.at w.program) (dead_in image.now.assumptions) (mark_at M.at w.marks) w.analysed) }
     {
         let program = machine.arch.mem.snapshot(alloc)?;
@@ -168,6 +183,7 @@ impl<M: Memory> Watch<M> {
         requires room { self.old.machine.position < 2 ^ 64 - 1 }
         requires code { self.old.listed.code ≡ list_any is_code image.now.assumptions }
         requires within { self.old.listed.within ≡ list_any is_within image.now.assumptions }
+        requires same { self.old.listed.same ≡ list_any is_same image.now.assumptions }
         requires analysed { self.old.analysed ≡ is_analysed image.now self.old.machine.arch.pc }
         ensures state { OnOk result (state_of M.at self.new.machine ≡ next_state (state_of M.at self.old.machine)) }
         ensures position { OnOk result (self.new.machine.position ≡ self.old.machine.position + 1) }
@@ -177,12 +193,12 @@ impl<M: Memory> Watch<M> {
         ensures program { M.at self.new.program ≡ M.at self.old.program }
         ensures marks { OnOk result ((a : ℕ) → mark_at M.at self.new.marks a ≡ marks_after (dead_in image.now.assumptions) (state_of M.at self.old.machine) (mark_at M.at self.old.marks) a) }
         ensures analysed { OnOk result (self.new.analysed ≡ is_analysed image.now self.new.machine.arch.pc) }
-        ensures stops { IfOk result (λ seen. seen.stops ≡ machine.stops (arch_at M.at self.old.machine.arch)) }
+        ensures stops { IfOk result (λ seen. seen.stops ≡ (task_machine image.now).stops (arch_at M.at self.old.machine.arch)) }
         ensures first { IfOk result (λ seen. seen.first
             ≡ first_from (fails_by (look_in image.now (number 4 self.old.machine.arch.pc (M.at self.old.program)) (state_of M.at self.old.machine) (mark_at M.at self.old.marks))) 0 image.now.assumptions) }
     {
         let pc = self.machine.arch.pc;
-        let coming = look_ahead(&mut self.machine, &mut self.program);
+        let coming = look_ahead(&mut self.machine, &mut self.program, image, pcs);
         read_marks(&self.marks, pc, coming.loads, &mut self.read)?;
         self.machine.one(alloc)?;
         let dead = coming.stores && pcs.is_dead(image, pc);
@@ -197,6 +213,7 @@ impl<M: Memory> Watch<M> {
             analysed: self.analysed,
             next,
             stays: pcs.is_noted(image, next),
+            load: coming.load,
         };
         self.analysed = sight.stays;
         Ok(Seen {

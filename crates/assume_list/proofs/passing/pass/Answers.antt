@@ -19,7 +19,7 @@ loop-alloc-init g c =
     record {
       watched = c.requires.watched;
       listed = refl;
-      reached = reached_first start c.args.image.now c.args.bound c.args.watch.now.machine.position start (shown c.args.waits.now) zero refl c.requires.none;
+      reached = reached_first start c.args.image.now c.args.asked.bound c.args.watch.now.machine.position start (shown c.args.waits.now) zero refl c.requires.none;
       clean = clean_first start c.args.image.now c.args.watch.now.machine.position zero;
       within = omega (arith, zero);
       known = c.requires.known;
@@ -41,7 +41,7 @@ returns-in-Some-clause-passed g c =
     let going = (goes w.machine.end j _ c.goes_on.result c.goes_on.ensures c.loop-alloc-test.true).0 in
     let Turned : Option ℕ → Type 0 =
     (λ o. HasTurned image.limit c.bound_after-until.result j (count_of image s.arch.pc) c.in_ok-seen.seen.stops (is_anchor_pc image t.arch.pc) (shown c.loop-alloc.waits) (shown c.take_turn.new.waits) o) in
-    passed_late start image c.requires.image c.in_ok-seen.seen.first c.args.bound c.bound_after-until.result j c.in-Some.since s (shown c.loop-alloc.waits) (shown c.take_turn.new.waits)
+    passed_late start image c.requires.image c.in_ok-seen.seen.first c.args.asked.span c.args.asked.bound c.bound_after-until.result j c.in-Some.since s (shown c.loop-alloc.waits) (shown c.take_turn.new.waits)
     c.in_ok-seen.seen.stops (is_anchor_pc image t.arch.pc) c.bound_after-until.ensures i.reached i.clean going (subst Turned c.in-Some.is c.in_ok-since.ensures.turned)
 
 pub returns-in-Some-first-clause-passed : goal.returns-in-Some-first-clause-passed
@@ -60,7 +60,7 @@ returns-in-Some-first-clause-passed g c =
     let fails : c.in_ok-seen.seen.first ≡ first_failing start image j =
     c.in_ok-seen.ensures.first ∙ first_is start image j s (at w.program) (dead_in image.assumptions) (mark_at at w.marks) w.analysed i.watched in
     let below = (goes w.machine.end j _ c.goes_on.result c.goes_on.ensures c.loop-alloc-test.true).1 in
-    passed_failed start image c.in_ok-seen.seen.first c.args.budget c.args.bound c.bound_after-until.result j c.step.new.self.machine.position c.in-Some-first.which s t
+    passed_failed start image c.in_ok-seen.seen.first c.args.asked.span c.args.budget c.args.asked.bound c.bound_after-until.result j c.step.new.self.machine.position c.in-Some-first.which s t
     (shown c.loop-alloc.waits) (shown c.take_turn.new.waits) c.in_ok-seen.seen.stops c.bound_after-until.ensures c.in-Some-first.is fails i.reached i.clean going below
     c.in_ok-seen.ensures.state c.in_ok-seen.ensures.position c.in_ok-seen.ensures.stops (subst Turned c.in-None.is c.in_ok-since.ensures.turned)
 
@@ -79,7 +79,7 @@ loop-alloc-preserved g c =
     (λ o. HasTurned image.limit c.bound_after-until.result j (count_of image s.arch.pc) c.in_ok-seen.seen.stops (is_anchor_pc image t.arch.pc) (shown c.loop-alloc.waits) (shown c.take_turn.new.waits) o) in
     let fails : c.in_ok-seen.seen.first ≡ first_failing start image j =
     c.in_ok-seen.ensures.first ∙ first_is start image j s (at w.program) (dead_in image.assumptions) (mark_at at w.marks) w.analysed i.watched in
-    let on = passed_on_so start image c.in_ok-seen.seen.first c.args.bound c.bound_after-until.result j c.step.new.self.machine.position s t
+    let on = passed_on_so start image c.in_ok-seen.seen.first c.args.asked.span c.args.asked.bound c.bound_after-until.result j c.step.new.self.machine.position s t
     (shown c.loop-alloc.waits) (shown c.take_turn.new.waits) c.in_ok-seen.seen.stops c.bound_after-until.ensures c.in-None-first.is fails i.reached i.clean going
     c.in_ok-seen.ensures.state c.in_ok-seen.ensures.position c.in_ok-seen.ensures.stops (subst Turned c.in-None.is c.in_ok-since.ensures.turned) in
     let later = c.step.new.self in

@@ -18,7 +18,7 @@ invariant-loop-alloc g l =
     record {
       watched : IsWatched start l.image j s (at l.watch.program) (dead_in l.image.assumptions) (mark_at at l.watch.marks) l.watch.analysed;
       listed : l.watch.listed ≡ l.fn.watch.listed;
-      reached : IsReached start l.image l.bound j s (shown l.waits);
+      reached : IsReached start l.image l.asked.bound j s (shown l.waits);
       clean : IsClean start l.image j;
       within : j ≤ l.budget;
       known : AreKnown l.pcs l.image;

@@ -1,4 +1,4 @@
--- It stops where it is a call, or the run is over afterwards.
+-- It stops where it is a call that no task does, or the run is over afterwards.
 use Rattle.std.proofs.Common.{ap, ◌∙◌}
 use Rattle.rv_run.specs.Calls.{step}
 use Rattle.seq_machine.specs.States.{state_of}
@@ -10,5 +10,5 @@ returns-clause-state g c = c.in_ok-one.ensures.ok ∙ ap step c.is_at_call-calls
 
 pub returns-clause-stops : goal.returns-clause-stops
 returns-clause-stops g c =
-    stop_seen (state_of g.M.Memory.at c.args.machine.now) (state_of g.M.Memory.at c.one.new.self) c.is_at_call-calls.result c.stops.result (not_over c.args.machine.now.end c.requires.running)
+    stop_seen c.args.image.now (state_of g.M.Memory.at c.args.machine.now) (state_of g.M.Memory.at c.one.new.self) c.is_at_call-calls.result c.stops.result (not_over c.args.machine.now.end c.requires.running)
     (c.in_ok-one.ensures.ok ∙ ap step c.is_at_call-calls.ensures.state) c.is_at_call-calls.ensures.calls c.stops.ensures

@@ -16,7 +16,7 @@ returns-clause-state g c = c.in_ok-one.ensures.ok ∙ ap next_state c.look_ahead
 pub returns-clause-stops : goal.returns-clause-stops
 returns-clause-stops g c =
     let s = state_of g.M.Memory.at c.args.self.now.machine in
-    stop_seen s (state_of g.M.Memory.at c.one.new.self) c.look_ahead-coming.result.calls c.stops.result (not_over c.args.self.now.machine.end c.requires.running)
+    stop_seen c.args.image.now s (state_of g.M.Memory.at c.one.new.self) c.look_ahead-coming.result.calls c.stops.result (not_over c.args.self.now.machine.end c.requires.running)
     (c.in_ok-one.ensures.ok ∙ ap next_state c.look_ahead-coming.ensures.state) c.look_ahead-coming.ensures.calls c.stops.ensures
 
 pub returns-clause-first : goal.returns-clause-first
@@ -30,12 +30,13 @@ returns-clause-first g c =
     looked c.args.image.now (number 4 s.arch.pc (g.M.Memory.at c.args.self.now.program)) s marks _ c.deref.result.now c.first_failing.result c.first_failing.ensures
     (record {
       pc = refl;
-      stops = stop_seen s t c.look_ahead-coming.result.calls c.stops.result (not_over c.args.self.now.machine.end c.requires.running) stepped c.look_ahead-coming.ensures.calls c.stops.ensures;
+      stops = stop_seen c.args.image.now s t c.look_ahead-coming.result.calls c.stops.result (not_over c.args.self.now.machine.end c.requires.running) stepped c.look_ahead-coming.ensures.calls c.stops.ensures;
       side = c.look_ahead-coming.ensures.side;
       jumps = c.look_ahead-coming.ensures.jumps;
       changed = c.look_ahead-coming.ensures.changed;
       analysed = c.requires.analysed;
       next = next;
       stays = c.is_noted.ensures.noted ∙ ap (is_analysed c.args.image.now) next;
+      load = c.look_ahead-coming.ensures.load;
     })
-    (λ at. ap (λ (ms : List ℕ). among ms (at + 1)) c.deref.ensures.value ∙ marks_seen s marks c.read_marks.new.read.items _ _ c.look_ahead-coming.ensures.loads c.in_ok-read_marks.ensures at)
+    (λ at. ap (λ (ms : List ℕ). among ms (at + 1)) c.deref.ensures.value ∙ marks_seen c.args.image.now s marks c.read_marks.new.read.items _ _ c.look_ahead-coming.ensures.loads c.in_ok-read_marks.ensures at)
