@@ -1,12 +1,12 @@
 -- The image of the analysed instructions, and what its notes, anchors and list say.
-use Rattle.std.proofs.Common.{◌≡◌, ℕ, ◌+◌, true, List, [], ◌∷◌, ◌++◌, map, length, refl, sym, ap, ◌∙◌, subst, arith, Some, ◌&&◌}
+use Rattle.std.proofs.Common.{◌≡◌, ℕ, ◌+◌, true, List, [], ◌∷◌, ◌++◌, map, length, refl, sym, ap, ◌∙◌, subst, arith, Some, None, ◌&&◌}
 use Rattle.cells.specs.Cells.{IsPc}
 use Rattle.std.specs.List.{slice_get}
 use Rattle.std.specs.Option.{option_map}
 use Rattle.dist_image.specs.declared.image.Note.{Note}
 use Rattle.dist_image.specs.Image.{Dead, Code, Within, Span, Distilled, slot_of}
 use Rattle.profile_data.specs.Profile.{Tally, Profiled}
-use Rattle.fitting.specs.Claims.{among, claims}
+use Rattle.fitting.specs.Claims.{among, claims, same_at}
 use Rattle.fitting.specs.Fits.{IsListed, is_analysed, is_anchor_pc}
 use Rattle.fitting.specs.Fits as fits
 use Rattle.distill_rules.specs.declared.Mask.{Mask}
@@ -17,8 +17,8 @@ use Rattle.distill_rules.specs.Flow as flow
 use Rattle.distill_rules.specs.Rounds.{live_of, need_of, live_at, need_at}
 use Rattle.layout_rules.specs.declared.Plot.{Plot}
 use Rattle.layout_rules.specs.declared.Options.{Options}
-use Rattle.layout_rules.specs.Layout.{is_laid, all_laid, slots, notes, anchors}
-use Rattle.layout_rules.specs.Images.{cut_premise, listed, cuts_of, places_of, distilled}
+use Rattle.layout_rules.specs.Layout.{is_laid, all_laid}
+use Rattle.layout_rules.specs.Images.{cut_premise, listed, values, value_at, image_of, cuts_of, places_of, distilled}
 use Rattle.distill_laws.specs.Laws.{AreWords}
 use Rattle.distill_laws.proofs.Analysed.{analysed_rise}
 use Rattle.distill_laws.proofs.Sites.{all_masks, plot_at, plots_are}
@@ -26,17 +26,18 @@ use Rattle.distill_laws.proofs.Noted.{is_noted, live_noted, need_noted}
 use Rattle.distill_laws.proofs.Forks.{is_anchor_among, among_anchors}
 use Rattle.distill_laws.proofs.Equations.{round_is}
 use Rattle.distill_laws.proofs.Claimed.{targets_only}
-use Rattle.distill_laws.proofs.Listing.{claims_are, target_premises}
+use Rattle.distill_laws.proofs.Listing.{claims_are, same_listed, target_premises}
+use Rattle.distill_laws.proofs.Valued.{value_of}
+use Rattle.distill_laws.proofs.Looked.{look_pairs}
+use Rattle.std.specs.Prelude.{nat_eq}
+use Rattle.std.specs.Map.{lookup}
+use Rattle.std.proofs.lemmas.Bool.{cond-true}
+use Rattle.std.proofs.lemmas.Option.{slice_get_within}
 use Rattle.distill_laws.proofs.Lists.{from_map, among_at, rises_at, note_found}
 use Rattle.distill_laws.proofs.Places as places
 use Rattle.distill_laws.proofs.Next.{IsOrdered, one_entry}
 use Rattle.distill_laws.proofs.Passing.{Begins}
 use Rattle.dist_image.specs.Image.{Premise}
-
--- the image of these instructions
-abbrev pub image_of : (ℕ → ℕ) → List Tally → Cuts → ℕ → ℕ → List Plot → Distilled
-image_of word rows c count limit ps =
-    record { limit = limit; slots = slots ps; anchors = anchors ps count; notes = notes ps; assumptions = listed c rows (graph word rows c) }
 
 module _ (word : ℕ → ℕ) (rows : List Tally) (c : Cuts) (begun : List ℕ) (count limit : ℕ) where
   abbrev pub t : List Mask
@@ -46,7 +47,7 @@ module _ (word : ℕ → ℕ) (rows : List Tally) (c : Cuts) (begun : List ℕ) 
   ps = map (plot_at word rows c begun t) (analysed rows)
 
   abbrev pub image : Distilled
-  image = image_of word rows c count limit ps
+  image = image_of (graph word rows c) c rows count limit ps
 
   -- ---- the pcs are those of the analysed instructions, in their order
 
@@ -77,7 +78,13 @@ module _ (word : ℕ → ℕ) (rows : List Tally) (c : Cuts) (begun : List ℕ) 
   noted_need small q = need_noted word rows c begun t (is_laid ps) (analysed rows) 0 0 q ∙ round_is word rows c begun small need_of q
 
   pub claimed : claims image ≡ flow.claims word rows c
-  claimed = claims_are word rows c (targets_only word rows)
+  claimed = claims_are word rows c ps (targets_only word rows)
+
+  -- a kept instruction's value is listed
+  pub valued : (q : ℕ) → among (analysed rows) q ≡ true → (plot_at word rows c begun t q).kept ≡ true → same_at image q ≡ value_at c q
+  valued q there kept =
+      ap (lookup (nat_eq q)) (same_listed word rows c begun t) ∙ look_pairs (value_of word rows c begun t) (analysed rows) q
+      ∙ cond-true (among (analysed rows) q) (value_of word rows c begun t q) None there ∙ cond-true (plot_at word rows c begun t q).kept (value_at c q) None kept
 
   -- the slot of a pc is where its entry begins
   pub slot_at : (order : IsOrdered ps) (q place : ℕ) → Begins ps order q place → slot_of image q ≡ Some place
@@ -92,16 +99,24 @@ module _ (word : ℕ → ℕ) (rows : List Tally) (c : Cuts) (begun : List ℕ) 
   abbrev before : List Premise
   before = map cut_premise c.cut ++ target_premises word rows c (analysed rows) ++ map Dead c.dead
 
-  closing_at : (k : ℕ) (x : Premise) → slice_get (Code ∷ Within ∷ Span ∷ []) k ≡ Some x → IsListed image.assumptions x
-  closing_at k x e = (length before + k, places.get_right before (Code ∷ Within ∷ Span ∷ []) k (length before + k) refl ∙ e)
+  abbrev behind : List Premise
+  behind = Code ∷ Within ∷ Span ∷ []
+
+  -- what is listed is an entry of the list
+  pub in_list : (k : ℕ) (x : Premise) → slice_get (listed c rows (graph word rows c)) k ≡ Some x → slice_get image.assumptions k ≡ Some x
+  in_list k x e =
+      places.get_left (listed c rows (graph word rows c)) (values c ps) k (slice_get_within (listed c rows (graph word rows c)) k x e) ∙ e
+
+  closing_at : (k : ℕ) (x : Premise) → slice_get behind k ≡ Some x → IsListed image.assumptions x
+  closing_at k x e = (length before + k, in_list (length before + k) x (places.get_right before behind k (length before + k) refl ∙ e))
 
   pub closed : IsListed image.assumptions Code × IsListed image.assumptions Within × IsListed image.assumptions Span
   closed = (closing_at 0 Code refl, closing_at 1 Within refl, closing_at 2 Span refl)
 
 -- the image that is distilled is such
-pub distilled_is : (word : ℕ → ℕ) (entry : ℕ) (f : Profiled) (o : Options) → AreWords word
-    → image word f.rows (cuts_of word entry f o) (places_of word entry f o).pcs (places_of word entry f o).count o.limit ≡ distilled word entry f o
+pub distilled_is : (word : ℕ → ℕ) (entry : ℕ) (f : Profiled) (same : List (ℕ × ℕ)) (o : Options) → AreWords word
+    → image word f.rows (cuts_of word entry f same o) (places_of word entry f same o).pcs (places_of word entry f same o).count o.limit ≡ distilled word entry f same o
 unfolding distilled
-distilled_is word entry f o small =
-    sym (ap (image_of word f.rows (cuts_of word entry f o) (places_of word entry f o).count o.limit)
-    (plots_are word f.rows (cuts_of word entry f o) (places_of word entry f o).pcs small))
+distilled_is word entry f same o small =
+    sym (ap (image_of (graph word f.rows (cuts_of word entry f same o)) (cuts_of word entry f same o) f.rows (places_of word entry f same o).count o.limit)
+    (plots_are word f.rows (cuts_of word entry f same o) (places_of word entry f same o).pcs small))

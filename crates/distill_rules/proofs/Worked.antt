@@ -2,7 +2,7 @@
 use Rattle.std.proofs.Common.{refl}
 use Rattle.distill_rules.specs.Analysed.{analysed}
 use Rattle.distill_rules.specs.Rounds.{solved}
-use Rattle.distill_rules.specs.Rows.{SideRows, RuleRows, NeverRows, StoreRows, JumpRows, StrangeRows, FenceRows}
+use Rattle.distill_rules.specs.Rows.{SideRows, RuleRows, NeverRows, StoreRows, JumpRows, StrangeRows, HelloRows, FenceRows}
 
 pub sides : SideRows
 sides = record {
@@ -19,7 +19,7 @@ sides = record {
 }
 
 pub rules : RuleRows
-rules = record { ahead = refl; to_itself = refl; to_the_next = refl; aside = refl; no_branch = refl; unread = refl; read = refl; no_store = refl }
+rules = record { ahead = refl; to_itself = refl; to_the_next = refl; aside = refl; no_branch = refl; unread = refl; read = refl; no_store = refl; each_short = refl; one_not_short = refl; no_call = refl }
 
 pub never : NeverRows
 unfolding analysed solved
@@ -36,6 +36,10 @@ jump = record { leads = refl; masks = refl }
 pub strange : StrangeRows
 unfolding analysed solved
 strange = record { cut = refl; uncut_leads = refl; leads = refl; masks = refl }
+
+pub hello : HelloRows
+unfolding analysed solved
+hello = record { cut = refl; masks = refl }
 
 pub fence : FenceRows
 unfolding analysed solved

@@ -4,7 +4,7 @@ use Rattle.std.specs.Map.{lookup}
 use Rattle.rv_word.specs.declared.inst.Inst.{Inst}
 use Rattle.rv_word.specs.declared.inst.Inst.TheVariants.{Jal, Jalr, Branch, Store, Ecall, Ebreak, Illegal}
 use Rattle.rv_word.specs.Meaning.{meaning}
-use Rattle.rv_word.specs.Masks.{reads, writes}
+use Rattle.rv_run.specs.Prints.{task_reads, task_writes}
 use Rattle.fitting.specs.Claims.{among}
 use Rattle.distill_rules.specs.declared.Fate.{Fate}
 use Rattle.distill_rules.specs.declared.Fate.TheVariants.{Stays, Goes, AsNeeded}
@@ -23,21 +23,23 @@ fate_of cut dead Ebreak = Stays
 fate_of cut dead (Illegal word) = Stays
 fate_of cut dead _ = AsNeeded
 
--- by its side that is cut, and whether it is dead and an anchor
-abbrev pub point_by : Option Bool → Bool → Bool → Site → Point
-point_by cut dead is_anchor s =
+-- where a task may print at these pcs; by its side that is cut, and whether it is dead, set and an anchor. A load that is set
+-- needs no register
+abbrev pub point_by : (ℕ → Bool) → Option Bool → Bool → Bool → Bool → Site → Point
+point_by prints cut dead is_set is_anchor s =
     record {
       pc = s.pc;
       next = s.next;
-      reads = reads (meaning s.word);
-      asks = reads (meaning s.word);
-      writes = writes (meaning s.word);
+      reads = task_reads prints (meaning s.word) s.pc;
+      asks = if is_set then 0 else task_reads prints (meaning s.word) s.pc;
+      writes = task_writes prints (meaning s.word) s.pc;
       fate = fate_of cut dead (meaning s.word);
       is_anchor = is_anchor;
     }
 
 abbrev pub point : Cuts → List ℕ → Site → Point
-point c anchors s = point_by (lookup (nat_eq s.pc) c.cut) (among c.dead s.pc) (among anchors s.pc) s
+point c anchors s =
+    point_by (among c.writes) (lookup (nat_eq s.pc) c.cut) (among c.dead s.pc) (is_some (lookup (nat_eq s.pc) c.same)) (among anchors s.pc) s
 
 abbrev pub points : Cuts → List ℕ → Graph → List Point
 points c anchors g = map (point c anchors) g.spots

@@ -1,12 +1,12 @@
 -- Worked rows: what is cut, where instructions lead, and which masks come of it.
 use Rattle.std.specs.Prelude.{◌≡◌, ℕ, Bool, true, false, List, [], ◌∷◌, Some, None}
 use Rattle.rv_word.specs.Meaning.{meaning}
-use Rattle.rv_run.specs.Programs.{frame}
+use Rattle.rv_run.specs.Programs.{frame, hello}
 use Rattle.rv_run.specs.Start.{Loaded, program_word}
 use Rattle.profile_data.specs.Profile.{Tally}
 use Rattle.fitting.specs.Rows.{never_true, store_for_write, jump_ahead}
 use Rattle.distill_rules.specs.declared.Mask.{Mask}
-use Rattle.distill_rules.specs.Cuts.{Cuts, rare_side, cut_by, is_dead_by, cuts}
+use Rattle.distill_rules.specs.Cuts.{Cuts, rare_side, cut_by, is_dead_by, is_write_by, cuts}
 use Rattle.distill_rules.specs.Flow.{Site, graph}
 use Rattle.distill_rules.specs.Points.{points}
 use Rattle.distill_rules.specs.Rounds.{solved}
@@ -37,7 +37,7 @@ pub record SideRows : Type 0 where
   pub past_great : rare_side 100 greatest 0x1999_9999_9999_999A ≡ None
   pub wraps_to_nothing : rare_side 0 greatest 0x2000_0000_0000_0000 ≡ None
 
--- branches at 0x00010008 whose conditions never held, and stores
+-- branches at 0x00010008 whose conditions never held, stores, and calls
 pub record RuleRows : Type 0 where
   pub ahead : cut_by 0 0x00010008 (meaning 0x00031863) (Some (row 0x00010008 10 0 false)) ≡ Some true
   pub to_itself : cut_by 0 0x00010008 (meaning 0x00031063) (Some (row 0x00010008 10 0 false)) ≡ Some true
@@ -47,6 +47,9 @@ pub record RuleRows : Type 0 where
   pub unread : is_dead_by (meaning 0x00558023) (Some (row 0x00010008 1 0 false)) ≡ true
   pub read : is_dead_by (meaning 0x00558023) (Some (row 0x00010008 1 0 true)) ≡ false
   pub no_store : is_dead_by (meaning 0x00031863) (Some (row 0x00010008 10 0 false)) ≡ false
+  pub each_short : is_write_by (meaning 0x00000073) (Some (row 0x00010008 3 3 false)) ≡ true
+  pub one_not_short : is_write_by (meaning 0x00000073) (Some (row 0x00010008 3 2 false)) ≡ false
+  pub no_call : is_write_by (meaning 0x00031863) (Some (row 0x00010008 3 3 false)) ≡ false
 
 -- ---- a loop of ten turns with a comparison in it that never holds
 
@@ -56,7 +59,7 @@ never_rows =
     ∷ row 0x00010014 1 0 false ∷ row 0x0001001c 1 0 false ∷ row 0x00010020 1 0 false ∷ row 0x00010024 1 0 false ∷ []
 
 abbrev pub never_cuts : Cuts
-never_cuts = record { cut = (0x00010008, true) ∷ []; dead = [] }
+never_cuts = record { cut = (0x00010008, true) ∷ []; dead = []; writes = []; same = [] }
 
 pub record NeverRows : Type 0 where
   pub cut : cuts (program_word never_true) never_rows 0 ≡ never_cuts
@@ -91,7 +94,7 @@ store_rows =
     ∷ row 0x00010014 1 0 false ∷ row 0x00010018 1 0 false ∷ row 0x0001001c 1 0 false ∷ row 0x00010024 1 0 false ∷ row 0x00010020 1 0 false ∷ []
 
 abbrev pub store_cuts : Cuts
-store_cuts = record { cut = []; dead = 0x00010008 ∷ [] }
+store_cuts = record { cut = []; dead = 0x00010008 ∷ []; writes = []; same = [] }
 
 pub record StoreRows : Type 0 where
   pub cut : cuts (program_word store_for_write) store_rows 10 ≡ store_cuts
@@ -118,9 +121,9 @@ jump_rows =
     ∷ []
 
 pub record JumpRows : Type 0 where
-  pub leads : (graph (program_word jump_ahead) jump_rows (record { cut = []; dead = [] })).spots
+  pub leads : (graph (program_word jump_ahead) jump_rows (record { cut = []; dead = []; writes = []; same = [] })).spots
       ≡ site 0x00010000 0x00000297 (0x00010004 ∷ []) ∷ site 0x00010004 0x008280E7 (0x00010000 ∷ []) ∷ []
-  pub masks : solved (points (record { cut = []; dead = [] }) [] (graph (program_word jump_ahead) jump_rows (record { cut = []; dead = [] })))
+  pub masks : solved (points (record { cut = []; dead = []; writes = []; same = [] }) [] (graph (program_word jump_ahead) jump_rows (record { cut = []; dead = []; writes = []; same = [] })))
       ≡ mask 0x00010000 0x00 0x00 true ∷ mask 0x00010004 0x20 0x20 true ∷ []
 
 -- ---- a profile of no run: a branch to itself that never fell through, a jump aside, and an address outside the program.
@@ -137,16 +140,40 @@ strange_rows =
     ∷ []
 
 abbrev pub strange_cuts : Cuts
-strange_cuts = record { cut = (0x00010000, false) ∷ []; dead = [] }
+strange_cuts = record { cut = (0x00010000, false) ∷ []; dead = []; writes = []; same = [] }
 
 pub record StrangeRows : Type 0 where
   pub cut : cuts (program_word strange) strange_rows 0 ≡ strange_cuts
-  pub uncut_leads : (graph (program_word strange) strange_rows (record { cut = []; dead = [] })).spots
+  pub uncut_leads : (graph (program_word strange) strange_rows (record { cut = []; dead = []; writes = []; same = [] })).spots
       ≡ site 0x00010000 0x00000063 (0x00010004 ∷ 0x00010000 ∷ []) ∷ site 0x00010004 0x0020006F [] ∷ site 0x00020000 0x00000000 [] ∷ []
   pub leads : (graph (program_word strange) strange_rows strange_cuts).spots
       ≡ site 0x00010000 0x00000063 (0x00010000 ∷ []) ∷ site 0x00010004 0x0020006F [] ∷ site 0x00020000 0x00000000 [] ∷ []
   pub masks : solved (points strange_cuts (0x00010000 ∷ []) (graph (program_word strange) strange_rows strange_cuts))
       ≡ mask 0x00010000 0 0 false ∷ mask 0x00010004 0 0 true ∷ mask 0x00020000 0 0 true ∷ []
+
+-- ---- a program that prints, where each execution of its call was a short write
+
+abbrev pub hello_rows : List Tally
+hello_rows =
+    row 0x00010000 1 0 false ∷ row 0x00010004 1 0 false ∷ row 0x00010008 1 0 false ∷ row 0x0001000c 1 0 false ∷ row 0x00010010 1 0 false
+    ∷ row 0x00010014 1 1 false ∷ row 0x00010018 1 0 false ∷ row 0x0001001c 1 0 false ∷ row 0x00010020 1 0 false ∷ []
+
+abbrev pub hello_cuts : Cuts
+hello_cuts = record { cut = []; dead = []; writes = 0x00010014 ∷ []; same = [] }
+
+pub record HelloRows : Type 0 where
+  pub cut : cuts (program_word hello) hello_rows 10 ≡ hello_cuts
+  pub masks : solved (points hello_cuts (0x00010000 ∷ 0x00010018 ∷ []) (graph (program_word hello) hello_rows hello_cuts))
+      ≡ mask 0x00010000 0x00 0x00 true
+      ∷ mask 0x00010004 0x400 0x400 true
+      ∷ mask 0x00010008 0xc00 0xc00 true
+      ∷ mask 0x0001000c 0xc00 0xc00 true
+      ∷ mask 0x00010010 0x1c00 0x1c00 true
+      ∷ mask 0x00010014 0x21c00 0x21c00 true
+      ∷ mask 0x00010018 0x00 0x00 false
+      ∷ mask 0x0001001c 0x00 0x00 false
+      ∷ mask 0x00010020 0x00 0x00 true
+      ∷ []
 
 -- ---- a FENCE does nothing, so it is not kept
 
@@ -154,6 +181,6 @@ abbrev pub fencing : Loaded
 fencing = frame (0x0FF0000F ∷ 0x00000073 ∷ [])
 
 pub record FenceRows : Type 0 where
-  pub masks : solved (points (record { cut = []; dead = [] }) (0x00010000 ∷ [])
-      (graph (program_word fencing) (row 0x00010000 1 0 false ∷ row 0x00010004 1 0 false ∷ []) (record { cut = []; dead = [] })))
+  pub masks : solved (points (record { cut = []; dead = []; writes = []; same = [] }) (0x00010000 ∷ [])
+      (graph (program_word fencing) (row 0x00010000 1 0 false ∷ row 0x00010004 1 0 false ∷ []) (record { cut = []; dead = []; writes = []; same = [] })))
       ≡ mask 0x00010000 0 0 false ∷ mask 0x00010004 0 0 true ∷ []

@@ -1,12 +1,13 @@
-//! How a profile is distilled: which instructions are analysed, which sides of branches are cut and
-//! which stores are dead, where each instruction leads, and which registers are live and needed.
+//! How a profile is distilled: which instructions are analysed, which sides of branches are cut, which
+//! stores are dead and which calls a task does, where each instruction leads, and which registers are
+//! live and needed.
 //!
 //! The rules look at a program's words and at a profile, and at no run. The crates `cuts`,
 //! `flow_graph` and `liveness` compute what they say.
 #![tactic(auto)]
 
 ghost use Rattle.distill_rules.specs.Solution.{Settles, IsLeast, AreMasks};
-ghost use Rattle.distill_rules.specs.Rows.{SideRows, RuleRows, NeverRows, StoreRows, JumpRows, StrangeRows, FenceRows};
+ghost use Rattle.distill_rules.specs.Rows.{SideRows, RuleRows, NeverRows, StoreRows, JumpRows, StrangeRows, HelloRows, FenceRows};
 
 /// Whether an instruction is kept.
 #[derive(Clone, Copy, Debug, PartialEq, Eq)]
@@ -41,8 +42,8 @@ pub fn masks_are_least()
     ensures masks { AreMasks }
 {}
 
-/// What is cut of branches and stores that were executed so often, and what comes of the profiles
-/// of small programs, those of no run among them.
+/// What is cut of branches and stores that were executed so often, and which calls a task does; and what
+/// comes of the profiles of small programs, those of no run among them.
 pub fn rows_are_worked()
     ensures sides { SideRows }
     ensures rules { RuleRows }
@@ -50,5 +51,6 @@ pub fn rows_are_worked()
     ensures store { StoreRows }
     ensures jump { JumpRows }
     ensures strange { StrangeRows }
+    ensures hello { HelloRows }
     ensures fence { FenceRows }
 {}

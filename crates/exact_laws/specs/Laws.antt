@@ -3,13 +3,13 @@ use Rattle.std.specs.Prelude.{◌≡◌, ℕ, ◌<◌, suc, Bool, true, false, L
 use Rattle.rv_word.specs.Meaning.{meaning}
 use Rattle.cells.specs.Run.{State, is_over}
 use Rattle.profile_data.specs.Profile.{Tally, Profiled}
-use Rattle.dist_image.specs.Image.{Premise, Cut, Targets, Dead, Code, Within, Distilled}
+use Rattle.dist_image.specs.Image.{Premise, Cut, Targets, Dead, Code, Within, Distilled, prints_at}
 use Rattle.fitting.specs.Claims.{among}
 use Rattle.fitting.specs.Fits.{is_analysed}
 use Rattle.fitting.specs.Fails.{program, state_at, Fails}
-use Rattle.profile_laws.specs.Profiles.{IsProfileOf}
+use Rattle.profile_laws.specs.Profiles.{with_mark, IsProfileOf}
 use Rattle.distill_rules.specs.Analysed.{analysed, analysed_row}
-use Rattle.distill_rules.specs.Cuts.{Cuts, cut_at, is_dead, cuts}
+use Rattle.distill_rules.specs.Cuts.{Cuts, cut_at, is_dead, cuts, is_write}
 use Rattle.distill_rules.specs.Flow.{Site, targets_by, graph}
 
 -- no other word than the program's was executed at any pc
@@ -19,6 +19,10 @@ AreUnchanged rows = All (λ (t : Tally). t.changed ≡ false) rows
 -- the image has notes at the analysed pcs and at no others
 abbrev pub IsNotedAs : Distilled → List Tally → Type 0
 IsNotedAs image rows = (pc : ℕ) → is_analysed image pc ≡ among (analysed rows) pc
+
+-- a task may print only at the calls that the rules name
+abbrev pub IsPrintedAs : Distilled → (ℕ → ℕ) → List Tally → Type 0
+IsPrintedAs image word rows = (pc : ℕ) → prints_at image pc ≡ true → is_write word rows pc ≡ true
 
 -- it fails at no position before n
 abbrev pub HoldsBefore : State → Distilled → ℕ → Premise → Type 0
@@ -37,7 +41,8 @@ pub record IsExact (start : State) (image : Distilled) (rows : List Tally) (n : 
 
 abbrev pub DistillsExactly : Type 0
 DistillsExactly =
-    (start : State) (n : ℕ) (p : Profiled) (image : Distilled) → IsProfileOf start n p → IsNotedAs image p.rows → IsExact start image p.rows n
+    (calls : Bool) (start : State) (n : ℕ) (p : Profiled) (image : Distilled) → IsProfileOf (with_mark calls) start n p → IsNotedAs image p.rows
+    → IsPrintedAs image (program start) p.rows → IsExact start image p.rows n
 
 -- what stands in the lists of a distiller stands there by the rules: each cut side, each dead store, and each analysed
 -- instruction with its word

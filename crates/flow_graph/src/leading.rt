@@ -27,22 +27,30 @@ pub(crate) fn successors(
     requires listed { IsListed c.now }
     requires rises { IsStrictlyIncreasing pcs.now }
     ensures { IfOk result (λ next. next.items ≡ filter (among pcs.now)
-        (leads_by (lookup (nat_eq pc) c.now.cut) (unwrap_or (targets_by (meaning word) (analysed_row f.now.rows pc)) []) pc (meaning word))) }
+        (leads_by (lookup (nat_eq pc) c.now.cut) (unwrap_or (targets_by (meaning word) (analysed_row f.now.rows pc)) []) (among c.now.writes pc) pc (meaning word))) }
 {
     let instruction = decode(word);
-    let to = leads(alloc, c.side(pc), analysed_row(f, pc), pc, &instruction)?;
+    let to = leads(
+        alloc,
+        c.side(pc),
+        analysed_row(f, pc),
+        c.is_write(pc),
+        pc,
+        &instruction,
+    )?;
     known(alloc, pcs, &to)
 }
 
-/// Where an instruction leads, by the side that is cut and by its row.
+/// Where an instruction leads, by the side that is cut, by its row, and whether a task may print there.
 fn leads(
     alloc: Global,
     cut: Option<bool>,
     row: Option<&Row>,
+    prints: bool,
     pc: u32,
     i: &Inst,
 ) -> Result<Vec<u32>, AllocError>
-    ensures { IfOk result (λ to. to.items ≡ leads_by cut (unwrap_or (targets_by i.now (option_copied row.entry)) []) pc i.now) }
+    ensures { IfOk result (λ to. to.items ≡ leads_by cut (unwrap_or (targets_by i.now (option_copied row.entry)) []) prints pc i.now) }
 {
     let mut to = Vec::new(alloc);
     match *i {
@@ -60,6 +68,7 @@ fn leads(
                 to.extend_from_slice(&row.targets)?;
             }
         }
+        Inst::Ecall if prints => to.push(pc.wrapping_add(4))?,
         Inst::Ecall | Inst::Ebreak | Inst::Illegal(_) => {}
         _ => to.push(pc.wrapping_add(4))?,
     }

@@ -1,6 +1,8 @@
 -- The image of the analysed instructions is a valid one.
-use Rattle.std.proofs.Common.{◌≡◌, ℕ, ◌+◌, ◌<◌, ◌≤◌, Bool, true, false, cond, List, [], ◌∷◌, ◌++◌, map, filter, length, All, flat_map, refl, sym, ap, ◌∙◌, subst, arith, Some}
+use Rattle.std.proofs.Common.{◌≡◌, ℕ, ◌+◌, ◌<◌, ◌≤◌, ◌^◌, suc, min, eqb, ◌&&◌, Bool, true, false, cond, List, [], ◌∷◌, ◌++◌, map, filter, filter_map, length, All, flat_map, refl, sym, ap, ◌∙◌, subst, arith, inl, inr, ◌⊎◌, Option, Some, None, IsSome}
 use Rattle.cells.specs.Cells.{IsPc}
+use Rattle.std.specs.Option.{unwrap_or}
+use Rattle.std.proofs.lemmas.List.Elements.{All-append, All-nil, All-cons}
 use Rattle.std.specs.Prelude.{nat_eq}
 use Rattle.std.specs.List.{AllByRecursion, IsDistinct, slice_get}
 use Rattle.std.specs.List.Sorted.{IsStrictlyIncreasing}
@@ -9,22 +11,30 @@ use Rattle.std.proofs.lemmas.List.Kept.{IsStrictlyIncreasing-filter}
 use Rattle.rv_word.specs.Meaning.{meaning}
 use Rattle.dist_image.specs.declared.image.Anchor.{Anchor}
 use Rattle.dist_image.specs.declared.image.Note.{Note}
-use Rattle.dist_image.specs.Image.{IsMask, IsAnchor, IsNote, IsPremise, IsImage, Distilled, key_of, target_count}
+use Rattle.dist_image.specs.Image.{Premise, Code, Within, Span, IsMask, IsAnchor, IsNote, IsPremise, IsImage, IsKnownAtFirst, Distilled, key_of, target_count, most_steps}
 use Rattle.profile_data.specs.Profile.{Tally, IsTally, pc_of}
 use Rattle.profile_data.specs.Profile as profile
 use Rattle.fitting.specs.Claims.{among}
 use Rattle.distill_rules.specs.declared.Mask.{Mask}
 use Rattle.distill_rules.specs.Analysed.{analysed}
-use Rattle.distill_rules.specs.Cuts.{Cuts, cuts}
+use Rattle.distill_rules.specs.Cuts.{Cuts, cuts, cut_at, is_dead, is_write}
+use Rattle.fitting.specs.Fits.{set_word}
+use Rattle.layout_rules.specs.Images.{value_at, values, version_of, limit_of, with_same}
+use Rattle.distill_laws.proofs.Listing.{targets_of}
+use Rattle.distill_laws.proofs.Premises.{from_picked}
+use Rattle.distill_laws.proofs.Valued.{value_of, value_has}
+use Rattle.image_laws.proofs.Chosen.{cut_as, targets_as, dead_as}
+use Rattle.rv_word.proofs.WellFormedMeaning.{well_formed-meaning}
+use Rattle.image_laws.proofs.Setting.{set_small}
 use Rattle.distill_rules.specs.Flow.{successors, graph}
 use Rattle.distill_rules.specs.Flow as flow
 use Rattle.layout_rules.specs.declared.Plot.{Plot}
 use Rattle.layout_rules.specs.Layout.{is_laid, Laid, laid, all_laid, lays, fork, note_of, anchors_of}
-use Rattle.distill_laws.specs.Laws.{AreWords}
+use Rattle.distill_laws.specs.Laws.{AreWords, IsLoadOf}
 use Rattle.distill_laws.proofs.Analysed.{analysed_rise}
 use Rattle.image_laws.proofs.Assumed.{all_premises, all_increase}
 use Rattle.image_laws.proofs.Limits.{few_assumptions, few_targets}
-use Rattle.distill_laws.proofs.Claimed.{has_sides_cut, goes_on_is}
+use Rattle.distill_laws.proofs.Claimed.{among_filter, has_sides_cut, goes_on_is}
 use Rattle.image_laws.proofs.Counted.{analysed_most}
 use Rattle.distill_laws.proofs.Equations.{live_is, need_is, live_mask, need_mask}
 use Rattle.distill_laws.proofs.Entries as entries
@@ -33,7 +43,7 @@ use Rattle.distill_laws.proofs.Made as made
 use Rattle.distill_laws.proofs.Next.{IsOrdered}
 use Rattle.distill_laws.proofs.Passing.{slot_in_range}
 use Rattle.image_laws.proofs.Ways.{on_pc}
-use Rattle.image_laws.proofs.Picked.{listed_is}
+use Rattle.image_laws.proofs.Picked.{cut_pick, targets_pick, dead_pick, of_none, values_are, listed_is}
 use Rattle.distill_laws.proofs.Places as places
 use Rattle.distill_laws.proofs.Sites.{plot_at}
 use Rattle.image_laws.proofs.Tables.{each_at, all_at, increasing, laid_length, slots_most, anchors_most, IsFit, slots_ok, anchors_ok}
@@ -64,10 +74,62 @@ module _ (word : ℕ → ℕ) (rows : List Tally) (c : Cuts) (begun : List ℕ) 
       front true a rest = refl
       front false a rest = refl
 
-module _ (word : ℕ → ℕ) (rows : List Tally) (rare : ℕ) (begun : List ℕ) (count limit : ℕ) (small : AreWords word)
-    (aligned : (q : ℕ) → among (analysed rows) q ≡ true → IsPc q) (distinct : IsDistinct nat_eq (map pc_of rows)) where
+-- ---- the version, and what it allows
+
+version_two : (ws : List ℕ) (ps : List Premise) → (version_of ws ps ≡ 1) ⊎ (version_of ws ps ≡ 2)
+version_two [] [] = inl refl
+version_two [] (p ∷ ps) = inr refl
+version_two (w ∷ ws) ps = inr refl
+
+is_plain : (ws : List ℕ) (ps : List Premise) → version_of ws ps ≡ 1 → (ws ≡ []) × (ps ≡ [])
+is_plain [] [] e = (refl, refl)
+is_plain [] (p ∷ ps) e = absurd (omega (arith, e))
+is_plain (w ∷ ws) ps e = absurd (omega (arith, e))
+
+limit_fits : (version limit : ℕ) → 16 ≤ limit → limit ≤ 16_384 → (16 ≤ limit_of version limit) × (limit_of version limit ≤ most_steps version)
+limit_fits version limit least greatest = by (eqb version 1)
+  where
+    by : (b : Bool) → (16 ≤ cond b limit (min limit 4_096)) × (cond b limit (min limit 4_096) ≤ cond b 16_384 4_096)
+    by true = (least, greatest)
+    by false = (omega (arith, least), omega arith)
+
+-- a kind that the first version knows
+picked_plain : (pick : ℕ → Option Premise) → ((pc : ℕ) (p : Premise) → pick pc ≡ Some p → IsKnownAtFirst p) → (pcs : List ℕ) → All IsKnownAtFirst (filter_map pick pcs)
+picked_plain pick h pcs = all_at IsKnownAtFirst (filter_map pick pcs) (λ i p e. let x = from_picked pick pcs i p e in h x.0 p x.2)
+
+module _ (word : ℕ → ℕ) (rows : List Tally) (rare : ℕ) where
+  listed_plain : All IsKnownAtFirst (filter_map (cut_pick word rows rare) (analysed rows) ++ filter_map (targets_pick word rows rare) (analysed rows)
+      ++ filter_map (dead_pick word rows rare) (analysed rows) ++ of_none word rows rare)
+  listed_plain =
+      let a = filter_map (cut_pick word rows rare) (analysed rows) in
+      let b = filter_map (targets_pick word rows rare) (analysed rows) in
+      let d = filter_map (dead_pick word rows rare) (analysed rows) in
+      let cut = picked_plain (cut_pick word rows rare) (λ pc p e. let x = cut_as pc (cut_at word rows rare pc) p e in subst IsKnownAtFirst x.1 tt) (analysed rows) in
+      let targets = picked_plain (targets_pick word rows rare) (λ pc p e. let x = targets_as pc (targets_of word rows pc) p e in subst IsKnownAtFirst x.2 tt) (analysed rows) in
+      let dead = picked_plain (dead_pick word rows rare) (λ pc p e. let x = dead_as pc (is_dead word rows pc) p e in subst IsKnownAtFirst x tt) (analysed rows) in
+      All-append IsKnownAtFirst (a ++ b ++ d) (of_none word rows rare)
+      (All-append IsKnownAtFirst (a ++ b) d (All-append IsKnownAtFirst a b cut targets) dead)
+      (All-cons IsKnownAtFirst Code (Within ∷ Span ∷ []) tt (All-cons IsKnownAtFirst Within (Span ∷ []) tt (All-cons IsKnownAtFirst Span [] tt (All-nil IsKnownAtFirst))))
+
+kept_shorter : (p : ℕ → Bool) (ns : List ℕ) → length (filter p ns) ≤ length ns
+kept_shorter p [] = omega arith
+kept_shorter p (n ∷ ns) = by (p n) (kept_shorter p ns)
+  where
+    by : (b : Bool) → length (filter p ns) ≤ length ns → length (cond b (n ∷ filter p ns) (filter p ns)) ≤ suc (length ns)
+    by true more = omega (arith, more)
+    by false more = omega (arith, more)
+
+among_kept : (p : ℕ → Bool) (ns : List ℕ) (q : ℕ) → among (filter p ns) q ≡ true → among ns q ≡ true
+among_kept p ns q h = and_left (among ns q) (p q) (sym (among_filter p ns q) ∙ h)
+  where
+    and_left : (a b : Bool) → (a && b) ≡ true → a ≡ true
+    and_left true b h = refl
+    and_left false b h = h
+
+module _ (word : ℕ → ℕ) (rows : List Tally) (rare : ℕ) (same : List (ℕ × ℕ)) (begun : List ℕ) (count limit : ℕ) (small : AreWords word)
+    (aligned : (q : ℕ) → among (analysed rows) q ≡ true → IsPc q) (distinct : IsDistinct nat_eq (map pc_of rows)) (loads : AllByRecursion (IsLoadOf word) same) where
   abbrev c : Cuts
-  c = cuts word rows rare
+  c = with_same same (cuts word rows rare)
 
   abbrev t : List Mask
   t = made.t word rows c begun count limit
@@ -81,10 +143,35 @@ module _ (word : ℕ → ℕ) (rows : List Tally) (rare : ℕ) (begun : List ℕ
   order : IsOrdered ps
   order = made.ordered word rows c begun count limit aligned
 
+  abbrev value : ℕ → Option ℕ
+  value = value_of word rows c begun t
+
+  given : (pc v : ℕ) → value pc ≡ Some v → value_at c pc ≡ Some v
+  given pc v e = by (plot_at word rows c begun t pc).kept (value_at c pc) e
+    where
+      by : (b : Bool) (o : Option ℕ) → cond b o None ≡ Some v → o ≡ Some v
+      by true o e = e
+      by false o e = cc
+
+  load_of : (pc v : ℕ) → value_at c pc ≡ Some v → IsSome (set_word (Some v) (meaning (word pc))) × (v < 2 ^ 32)
+  load_of pc v e = value_has (λ q v. IsSome (set_word (Some v) (meaning (word q))) × (v < 2 ^ 32)) same loads pc v e
+
+  -- a word that is laid has 32 bits
+  laid_small : (pc : ℕ) → (plot_at word rows c begun t pc).word < 2 ^ 32
+  laid_small pc = by (value_at c pc) (λ v e. (load_of pc v e).1) refl
+    where
+      set_by : (v : ℕ) → v < 2 ^ 32 → (o : Option ℕ) → set_word (Some v) (meaning (word pc)) ≡ o → unwrap_or o (word pc) < 2 ^ 32
+      set_by v l None f = small pc
+      set_by v l (Some w) f = set_small v (meaning (word pc)) w (well_formed-meaning (word pc) (small pc)) l f
+
+      by : (o : Option ℕ) → ((v : ℕ) → o ≡ Some v → v < 2 ^ 32) → value_at c pc ≡ o → unwrap_or (set_word o (meaning (word pc))) (word pc) < 2 ^ 32
+      by None l e = small pc
+      by (Some v) l e = set_by v (l v refl) (set_word (Some v) (meaning (word pc))) refl
+
   plot_fits : (pc : ℕ) → among (analysed rows) pc ≡ true → IsFit (plot_at word rows c begun t pc)
   plot_fits pc h = record {
     pc = aligned pc h;
-    word = small pc;
+    word = laid_small pc;
     on =
         subst IsPc (sym (goes_on_is word rows c pc (successors word rows c pc)))
         (on_pc (flow.claims word rows c) pc (meaning (word pc)) (aligned pc h) (has_sides_cut word rows rare pc));
@@ -118,19 +205,26 @@ module _ (word : ℕ → ℕ) (rows : List Tally) (rare : ℕ) (begun : List ℕ
       → 1 ≤ count → count ≤ 64 → 16 ≤ limit → limit ≤ 16_384 → IsImage image
   image_valid valid few many some most least greatest =
       let laid_few = laid_many in
-      let as_listed = listed_is word rows rare in
+      let as_listed = listed_is word rows rare same begun t in
       record {
-        limit = (least, greatest);
+        version = version_two c.writes (values c ps);
+        plain = λ e.
+            let none = is_plain c.writes (values c ps) e in (
+              none.0,
+              subst (All IsKnownAtFirst) (sym as_listed) (All-append IsKnownAtFirst _ _ (listed_plain word rows rare)
+                  (subst (All IsKnownAtFirst) (sym none.1 ∙ values_are word rows c begun t (analysed rows)) (All-nil IsKnownAtFirst))),
+            );
+        limit = limit_fits (version_of c.writes (values c ps)) limit least greatest;
         few_slots = let a = slots_most (is_laid ps) count (all_laid ps) in omega (arith, a, laid_few, few);
         few_anchors = let a = anchors_most (is_laid ps) count (all_laid ps) in omega (arith, a, laid_few, few);
         few_notes = let a = length-map (all_laid ps) note_of in omega (arith, a, laid_few, few);
         few_assumptions =
-            let a = few_assumptions word rows rare in
+            let a = few_assumptions word rows rare value (λ pc v e. (load_of pc v (given pc v e)).0) in
             let b = analysed_most rows in
             let e = ap length as_listed in
             omega (arith, a, b, e, few);
         few_targets =
-            let a = few_targets word rows rare distinct in
+            let a = few_targets word rows rare value distinct in
             let e = ap target_count as_listed in
             omega (arith, a, e, many);
         slots = slots_ok (is_laid ps) count (length image.anchors) ps 0 0 (omega arith) all_fit;
@@ -142,6 +236,9 @@ module _ (word : ℕ → ℕ) (rows : List Tally) (rare : ℕ) (begun : List ℕ
         notes = all_at (IsNote (length image.slots)) image.notes (entries.each word rows c begun count limit (IsNote (length image.slots)) note_ok);
         notes_rise =
             subst IsStrictlyIncreasing (sym (note_pcs word rows c begun t (is_laid ps) count (analysed rows) 0 0)) (increasing (analysed rows) (analysed_rise rows));
-        assumptions = subst (All IsPremise) (sym as_listed) (all_premises word rows rare aligned valid);
-        assumptions_rise = subst (λ xs. IsStrictlyIncreasing (map key_of xs)) (sym as_listed) (all_increase word rows rare aligned);
+        assumptions = subst (All IsPremise) (sym as_listed) (all_premises word rows rare value aligned valid (λ pc v e. (load_of pc v (given pc v e)).1));
+        assumptions_rise = subst (λ xs. IsStrictlyIncreasing (map key_of xs)) (sym as_listed) (all_increase word rows rare value aligned);
+        few_writes = let a = kept_shorter (is_write word rows) (analysed rows) in let b = analysed_most rows in omega (arith, a, b, few);
+        writes = all_at IsPc c.writes (λ i q e. aligned q (among_kept (is_write word rows) (analysed rows) q (among_at c.writes i q e)));
+        writes_rise = IsStrictlyIncreasing-filter (is_write word rows) (analysed rows) (increasing (analysed rows) (analysed_rise rows));
       }

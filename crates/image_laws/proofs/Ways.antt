@@ -17,7 +17,7 @@ sum_small pc z = omega arith
 pub on_pc : (c : Claims) (pc : ℕ) (i : Inst) → IsPc pc → ((b : Bool) → c.cut pc ≡ Some b → has_sides pc i ≡ true) → IsPc (goes_on_at c pc i)
 on_pc c pc (Branch test rs1 rs2 off) ok cut = by (c.cut pc) refl
   where
-    by : (o : Option Bool) → c.cut pc ≡ o → IsPc (goes_on_at (record { cut = λ q. o; targets = λ q. None; dead = λ q. false }) pc (Branch test rs1 rs2 off))
+    by : (o : Option Bool) → c.cut pc ≡ o → IsPc (goes_on_at (record { cut = λ q. o; targets = λ q. None; dead = λ q. false; prints = λ q. false }) pc (Branch test rs1 rs2 off))
     by None e = after_pc pc ok
     by (Some true) e = after_pc pc ok
     by (Some false) e =

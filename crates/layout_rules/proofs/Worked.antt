@@ -3,7 +3,7 @@ use Rattle.std.proofs.Common.{refl}
 use Rattle.distill_rules.specs.Analysed.{analysed}
 use Rattle.distill_rules.specs.Rounds.{solved}
 use Rattle.layout_rules.specs.Images.{distilled}
-use Rattle.layout_rules.specs.Rows.{CountRows, AimRows, HotRows, NeverRows, StoreRows, InputRows, BareRows}
+use Rattle.layout_rules.specs.Rows.{CountRows, AimRows, HotRows, NeverRows, StoreRows, InputRows, BareRows, PrintRows, ValueRows}
 
 pub counts : CountRows
 counts = record { worked = refl; greatest = refl; least = refl; one_arrival_a_step = refl; no_arrival = refl }
@@ -41,3 +41,11 @@ input = record { slots = refl; anchors = refl; assumptions = refl }
 pub bare : BareRows
 unfolding analysed solved distilled
 bare = record { looped = refl; no_rows = refl; all_changed = refl }
+
+pub print : PrintRows
+unfolding analysed solved distilled
+print = record { printed = refl; at_most = refl; shown = refl }
+
+pub value : ValueRows
+unfolding analysed solved distilled
+value = record { set = refl; unneeded = refl }

@@ -1,13 +1,13 @@
 -- Worked rows: how many arrivals a task spans, where tasks may begin, and the images of small programs.
 use Rattle.std.specs.Prelude.{◌≡◌, ℕ, true, false, List, [], ◌∷◌, Some, None}
 use Rattle.rv_word.specs.Meaning.{meaning}
-use Rattle.rv_run.specs.Programs.{frame}
+use Rattle.rv_run.specs.Programs.{frame, hello}
 use Rattle.rv_run.specs.Start.{Loaded, program_word}
 use Rattle.dist_image.specs.declared.image.Slot.TheVariants.{Exec, Fork}
 use Rattle.dist_image.specs.Image.{Cut, Code, Within, Span, Distilled, nothing_known}
 use Rattle.profile_data.specs.Profile.{Tally, Profiled}
-use Rattle.fitting.specs.Rows.{anchor, never_true, never_image, store_for_write, store_image, always_taken, taken_image}
-use Rattle.distill_rules.specs.Rows.{row, never_rows, never_cuts, store_rows}
+use Rattle.fitting.specs.Rows.{anchor, note, never_true, never_image, store_for_write, store_image, always_taken, taken_image, hello_image, one_value, value_image}
+use Rattle.distill_rules.specs.Rows.{row, never_rows, never_cuts, store_rows, hello_rows}
 use Rattle.layout_rules.specs.declared.Options.{Options}
 use Rattle.layout_rules.specs.Places.{count_by, aim_by, begun}
 use Rattle.layout_rules.specs.Images.{distilled}
@@ -46,7 +46,7 @@ abbrev pub ended : ℕ → List Tally → Profiled
 ended steps rows = record { steps = steps; ended = true; rows = rows }
 
 abbrev pub image_of : Loaded → Profiled → Options → Distilled
-image_of p f o = distilled (program_word p) 0x00010000 f o
+image_of p f o = distilled (program_word p) 0x00010000 f [] o
 
 -- a comparison that never holds, in a loop
 abbrev pub NeverRows : Type 0
@@ -90,3 +90,72 @@ pub record BareRows : Type 0 where
   pub no_rows : image_of always_taken (ended 0 []) (options 0 2 2 16) ≡ record nothing_known { assumptions = Code ∷ Within ∷ Span ∷ [] }
   pub all_changed : image_of always_taken (ended 1 (record (row 0x00010000 1 0 false) { changed = true } ∷ [])) (options 0 2 2 16)
       ≡ record nothing_known { assumptions = Code ∷ Within ∷ Span ∷ [] }
+
+-- ---- programs that print, by profiles in which each execution of the call was a short write
+
+abbrev pub printing : ℕ → Options
+printing limit = options 10 2 200 limit
+
+-- the store whose byte the write shows is kept
+abbrev pub shown_rows : List Tally
+shown_rows =
+    row 0x00010004 1 0 false ∷ row 0x00010000 1 0 false ∷ row 0x00010008 1 0 true ∷ row 0x0001000c 1 0 false ∷ row 0x00010010 1 0 false
+    ∷ row 0x00010014 1 0 false ∷ row 0x00010018 1 1 false ∷ row 0x0001001c 1 0 false ∷ row 0x00010024 1 0 false ∷ row 0x00010020 1 0 false ∷ []
+
+abbrev pub shown_image : Distilled
+shown_image = record {
+  version = 2;
+  limit = 4096;
+  slots =
+      Fork 0 ∷ Exec 0x00010000 0x000205B7 ∷ Exec 0x00010004 0x04100293 ∷ Exec 0x00010008 0x00558023 ∷ Exec 0x0001000c 0x00100513
+      ∷ Exec 0x00010010 0x00100613 ∷ Exec 0x00010014 0x04000893 ∷ Exec 0x00010018 0x00000073 ∷ Fork 1 ∷ Exec 0x00010024 0x00000073 ∷ [];
+  anchors = anchor 0x00010000 0 40 ∷ anchor 0x0001001c 8 40 ∷ [];
+  notes =
+      note 0x00010000 0 0x000 0x000
+      ∷ note 0x00010004 2 0x800 0x800
+      ∷ note 0x00010008 3 0x820 0x820
+      ∷ note 0x0001000c 4 0x800 0x800
+      ∷ note 0x00010010 5 0xc00 0xc00
+      ∷ note 0x00010014 6 0x1c00 0x1c00
+      ∷ note 0x00010018 7 0x21c00 0x21c00
+      ∷ note 0x0001001c 8 0x000 0x000
+      ∷ note 0x00010020 9 0x000 0x000
+      ∷ note 0x00010024 9 0x000 0x000
+      ∷ [];
+  assumptions = Code ∷ Within ∷ Span ∷ [];
+  writes = 0x00010018 ∷ [];
+}
+
+pub record PrintRows : Type 0 where
+  pub printed : image_of hello (ended 9 hello_rows) (printing 4096) ≡ hello_image
+  -- the longest task of the second version
+  pub at_most : image_of hello (ended 9 hello_rows) (printing 16384) ≡ hello_image
+  pub shown : image_of store_for_write (ended 10 shown_rows) (printing 4096) ≡ shown_image
+
+-- ---- loads of one value
+
+abbrev pub image_with : Loaded → Profiled → List (ℕ × ℕ) → Options → Distilled
+image_with p f same o = distilled (program_word p) 0x00010000 f same o
+
+abbrev pub value_rows : List Tally
+value_rows =
+    row 0x00010000 1 0 false ∷ row 0x00010004 1 0 false ∷ row 0x00010008 10 0 false ∷ row 0x0001000c 10 0 false ∷ row 0x00010010 10 0 false
+    ∷ row 0x00010014 10 9 false ∷ row 0x00010018 1 0 false ∷ row 0x0001001c 1 0 false ∷ row 0x00010020 1 0 false ∷ []
+
+-- a load of what nobody needs, and a call
+abbrev pub unneeded_load : Loaded
+unneeded_load = frame (0x00002283 ∷ 0x00000073 ∷ [])
+
+pub record ValueRows : Type 0 where
+  pub set : image_with one_value (ended 45 value_rows) ((0x00010008, 0) ∷ []) (printing 4096) ≡ value_image
+  -- it is passed, and its value is not listed
+  pub unneeded : image_with unneeded_load (ended 2 (row 0x00010000 1 0 false ∷ row 0x00010004 1 0 false ∷ [])) ((0x00010000, 0) ∷ []) (options 0 2 2 16384)
+      ≡ record {
+        version = 1;
+        limit = 16384;
+        slots = Fork 0 ∷ Exec 0x00010004 0x00000073 ∷ [];
+        anchors = anchor 0x00010000 0 1 ∷ [];
+        notes = note 0x00010000 0 0 0 ∷ note 0x00010004 1 0 0 ∷ [];
+        assumptions = Code ∷ Within ∷ Span ∷ [];
+        writes = [];
+      }

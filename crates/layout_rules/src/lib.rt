@@ -5,7 +5,7 @@
 //! `fork_layout` and `distiller` compute what they say.
 #![tactic(auto)]
 
-ghost use Rattle.layout_rules.specs.Rows.{CountRows, AimRows, HotRows, NeverRows, StoreRows, InputRows, BareRows};
+ghost use Rattle.layout_rules.specs.Rows.{CountRows, AimRows, HotRows, NeverRows, StoreRows, InputRows, BareRows, PrintRows, ValueRows};
 
 /// What a distiller is asked for.
 #[derive(Clone, Copy, Debug, PartialEq, Eq)]
@@ -17,7 +17,7 @@ pub struct Options {
     pub hot: u64,
     /// How many steps a task should take: 1 to 65,536.
     pub goal: u32,
-    /// The most steps of a task: 16 to 16,384.
+    /// The most steps of a task: 16 to 16,384. An image of version 2 has 4,096 at most.
     pub limit: u32,
 }
 
@@ -26,7 +26,7 @@ pub struct Options {
 pub struct Plot {
     /// Its address.
     pub pc: u32,
-    /// The program's word there.
+    /// The word that is laid there: the program's, or one that sets the register of a load.
     pub word: u32,
     /// The registers that are live before it, as a mask.
     pub live: u32,
@@ -49,4 +49,6 @@ pub fn rows_are_worked()
     ensures store { StoreRows }
     ensures input { InputRows }
     ensures bare { BareRows }
+    ensures print { PrintRows }
+    ensures value { ValueRows }
 {}

@@ -1,61 +1,12 @@
--- Each part is that of the definition, and their lengths agree.
-use Rattle.std.proofs.Common.{◌≡◌, ap, sym, subst, ◌∙◌, arith, length}
-use Rattle.distill_rules.specs.Flow.{Graph, graph}
-use Rattle.distill_rules.specs.Cuts.{Cuts}
-use Rattle.distill_rules.specs.Points.{points}
-use Rattle.distill_rules.specs.Rounds.{solved}
-use Rattle.cuts.specs.Words.{word_in}
-use Rattle.layout_rules.specs.Places.{Places, places}
-use Rattle.layout_rules.specs.Images.{laid_out, distilled, cuts_of, graph_of, places_of, masks_of}
-use Rattle.dist_image.specs.Image.{Distilled, IsImage}
+-- Of no load a value is given.
+use Rattle.std.proofs.lemmas.List.Elements.{All-nil}
+use Rattle.std.proofs.lemmas.Result.{IfOk-weaker}
 use Rattle.seq_machine.specs.Parts.{start_of}
-use Rattle.fitting.specs.Fits.{Fits}
-use Rattle.exact_images.specs.Laws.{ListHolds}
-use Rattle.distill_laws.proofs.Laws.{distilled_fits}
-use Rattle.image_laws.proofs.Laws.{distilled_is_image}
-use Rattle.exact_images.proofs.Exact.{exactly}
-use Rattle.distiller.proofs.Lengths.{few_spots, as_many_masks}
+use Rattle.exact_images.specs.Laws.{IsLoaded}
 use Rattle.distiller.proofs.distill.Goals as goal
-use Rattle.distiller.proofs.distill.Goals.{After-drop-c-inside-3}
-
-pub prove-unreachable-requires : goal.prove-unreachable-requires
-prove-unreachable-requires c =
-    let few = few_spots (word_in c.args.p.now) c.args.f.now.rows c.in_ok-c.c c.in_ok-g.g c.in_ok-g.ensures.graph in
-    let long : length c.g.inside.spots.items ≡ length c.in_ok-g.g.spots = ap (λ (g : Graph). length g.spots) c.g.view_is in
-    omega (arith, few, long, c.g.inside.spots.ok.0, c.len.ensures, c.len-rows.ensures.len)
-
-pub lay_out-requires-clause-masks : goal.lay_out-requires-clause-masks
-lay_out-requires-clause-masks c = ap length (c.deref-2.ensures.value ∙ c.in_ok-m.ensures.solved) ∙ as_many_masks c.in_ok-c.c c.deref.result.now c.in_ok-g.g
-
--- the image is the distilled one
-is_distilled : (c : After-drop-c-inside-3) → c.in_ok-lay_out.field-0 ≡ distilled (word_in c.args.p.now) c.args.p.now.entry c.args.f.now c.args.o.now
-unfolding distilled
-is_distilled c =
-    let word = word_in c.args.p.now in
-    let entry = c.args.p.now.entry in
-    let f = c.args.f.now in
-    let o = c.args.o.now in
-    let cut : c.in_ok-c.c ≡ cuts_of word entry f o = c.in_ok-c.ensures.cuts in
-    let sites : c.in_ok-g.g ≡ graph_of word entry f o = c.in_ok-g.ensures.graph ∙ ap (graph word f.rows) cut in
-    let begun : c.in_ok-a.a ≡ places_of word entry f o = c.in_ok-a.ensures.places ∙ ap (λ (c : Cuts). places word entry f c o.hot o.goal) cut in
-    let pcs = c.deref.ensures.value ∙ ap (λ (a : Places). a.pcs) (c.a.view_is ∙ begun) in
-    let masks : c.deref-2.result.now ≡ masks_of word entry f o = c.deref-2.ensures.value ∙ c.in_ok-m.ensures.solved ∙ (λ i. solved (points (cut i) (pcs i) (sites i))) in
-    c.in_ok-lay_out.ensures {u = tt} ∙ (λ i. laid_out (sites i) (masks i) (cut i) f.rows (begun i) o.limit)
-
-pub returns-clause-exact : goal.returns-clause-exact
-returns-clause-exact c = is_distilled c
-
-pub returns-clause-image : goal.returns-clause-image
-returns-clause-image c =
-    subst IsImage (sym (is_distilled c))
-    (distilled_is_image (word_in c.args.p.now) c.args.p.now.entry c.args.f.now c.args.o.now c.has_words.ensures c.len-rows.ensures.valid c.requires.limit.0 c.requires.limit.1)
-
-pub returns-clause-fits : goal.returns-clause-fits
-returns-clause-fits c =
-    subst (Fits (word_in c.args.p.now)) (sym (is_distilled c))
-    (distilled_fits (word_in c.args.p.now) c.args.p.now.entry c.args.f.now c.args.o.now c.has_words.ensures c.len-rows.ensures.valid)
 
 pub returns-clause-holds : goal.returns-clause-holds
-returns-clause-holds c input n is rare =
-    subst (λ (image : Distilled). ListHolds (start_of c.args.p.now input) image c.args.f.now.rows n) (sym (is_distilled c))
-    (exactly (start_of c.args.p.now input) n c.args.p.now.entry c.args.f.now c.args.o.now c.has_words.ensures is rare)
+returns-clause-holds c =
+    IfOk-weaker c.distill_same.result _ _
+    (λ image holds calls input n is rare. holds calls input n is (All-nil (IsLoaded (start_of c.args.p.now input) n)) rare)
+    c.distill_same.ensures.holds

@@ -1,5 +1,5 @@
 -- One more part is fit too.
-use Rattle.std.proofs.Common.{◌≡◌, [], ◌∷◌, ◌++◌, ◌<◌, ◌+◌, length, get_or, List, map, sym, ap, ◌∙◌, subst}
+use Rattle.std.proofs.Common.{◌≡◌, [], ◌∷◌, ◌++◌, ◌<◌, ◌+◌, length, get_or, List, is_some, map, sym, ap, ◌∙◌, subst}
 use Rattle.std.specs.Prelude.{take, nat_eq}
 use Rattle.std.specs.Map.{lookup}
 use Rattle.fitting.specs.Claims.{among}
@@ -16,9 +16,14 @@ loop-spot-preserved c =
     let s : Site = c.spot-item.result in
     let spots = c.args.g.now.spots in
     let i = c.loop-spot.spot-index in
-    let f : Site → Point = point c.args.c.now c.args.anchors.now in
-    let one = c.in_ok-part_of.ensures.part ∙ (λ i. point_by (c.side.ensures i) (c.is_dead.ensures i) (c.is_among-is_anchor.ensures i) s)
-    ∙ ap (λ (t : Site). point_by (lookup (nat_eq t.pc) c.args.c.now.cut) (among c.args.c.now.dead t.pc) (among c.args.anchors.now t.pc) s) c.spot.view_is in
+    let cuts = c.args.c.now in
+    let anchors = c.args.anchors.now in
+    let f : Site → Point = point cuts anchors in
+    let one = c.in_ok-part_of.ensures.part
+    ∙ (λ i. point_by (λ pc. c.is_write.ensures i) (c.side.ensures i) (c.is_dead.ensures i) ((c.is_some.ensures ∙ ap is_some c.value.ensures) i) (c.is_among.ensures i) s)
+    ∙ ap
+    (λ (t : Site). point_by (λ pc. among cuts.writes t.pc) (lookup (nat_eq t.pc) cuts.cut) (among cuts.dead t.pc) (is_some (lookup (nat_eq t.pc) cuts.same)) (among anchors t.pc) s)
+    c.spot.view_is in
     let same : c.deref-spot-items.result.now ≡ spots = c.deref-spot-items.ensures.value ∙ ap (λ (g : Graph). g.spots) c.g.view_is in
     let inside = subst (λ (xs : List Site). i < length xs) same c.loop-spot-test.true in
     let item : get_or spots i s ≡ s = sym (c.spot-item.is ∙ ap (λ xs. get_or xs i s) same) in
