@@ -1,0 +1,7 @@
+pub mod Fitted
+pub mod Earlier
+pub mod Keys
+pub mod Joined
+pub mod Noted
+pub mod Least
+pub mod Firsts
