@@ -6,7 +6,7 @@ use Rattle.std.proofs.lemmas.Bool.Decides.{nat_tests}
 use Rattle.command_line.specs.declared.options.Kind.{Kind}
 use Rattle.command_line.specs.Number.{number_of, within, number_within}
 use Rattle.command_line.specs.Options.{same, takes, value_of, number_or, may_precede, are_options, IsNumberIfGiven}
-use Rattle.command_line.specs.Command.{run_options, replay_options, walk_options, distill_options}
+use Rattle.command_line.specs.Command.{run_options, replay_options, check_options, profile_options, distill_options}
 
 pub list_any-map : {A B : Type 0} (test : B → Bool) (f : A → B) (xs : List A) → list_any test (map f xs) ≡ list_any (λ x. test (f x)) xs
 list_any-map test f [] = refl
@@ -107,14 +107,27 @@ pub slaves-given : (words : List (List ℕ)) → are_options replay_options word
 unfolding takes
 slaves-given words h = number-given replay_options (codes "--slaves") 1 64 (lit< tt) (λ v e. grind (arith, e)) words h
 
--- `--budget` of `profile` and of `check` is a number from 1 to 10^12
-pub walk-budget-between : (words : List (List ℕ)) → are_options walk_options words ≡ true → (1 ≤ number_or (10 ^ 9) (codes "--budget") words) × (number_or (10 ^ 9) (codes "--budget") words ≤ 10 ^ 12)
+-- `--budget` of `check` and of `profile` is a number from 1 to 10^12
+pub check-budget-between : (words : List (List ℕ)) → are_options check_options words ≡ true → (1 ≤ number_or (10 ^ 9) (codes "--budget") words) × (number_or (10 ^ 9) (codes "--budget") words ≤ 10 ^ 12)
 unfolding takes
-walk-budget-between words h = number-between walk_options (codes "--budget") 1 (10 ^ 12) (10 ^ 9) (omega arith) (omega arith) (λ v e. grind (arith, e)) words h
+check-budget-between words h = number-between check_options (codes "--budget") 1 (10 ^ 12) (10 ^ 9) (omega arith) (omega arith) (λ v e. grind (arith, e)) words h
 
-pub walk-budget-given : (words : List (List ℕ)) → are_options walk_options words ≡ true → IsNumberIfGiven (codes "--budget") words
+pub check-budget-given : (words : List (List ℕ)) → are_options check_options words ≡ true → IsNumberIfGiven (codes "--budget") words
 unfolding takes
-walk-budget-given words h = number-given walk_options (codes "--budget") 1 (10 ^ 12) (lit< tt) (λ v e. grind (arith, e)) words h
+check-budget-given words h = number-given check_options (codes "--budget") 1 (10 ^ 12) (lit< tt) (λ v e. grind (arith, e)) words h
+
+pub profile-budget-between : (words : List (List ℕ)) → are_options profile_options words ≡ true → (1 ≤ number_or (10 ^ 9) (codes "--budget") words) × (number_or (10 ^ 9) (codes "--budget") words ≤ 10 ^ 12)
+unfolding takes
+profile-budget-between words h = number-between profile_options (codes "--budget") 1 (10 ^ 12) (10 ^ 9) (omega arith) (omega arith) (λ v e. grind (arith, e)) words h
+
+pub profile-budget-given : (words : List (List ℕ)) → are_options profile_options words ≡ true → IsNumberIfGiven (codes "--budget") words
+unfolding takes
+profile-budget-given words h = number-given profile_options (codes "--budget") 1 (10 ^ 12) (lit< tt) (λ v e. grind (arith, e)) words h
+
+-- `--calls` is 0 or 1
+pub calls-given : (words : List (List ℕ)) → are_options profile_options words ≡ true → IsNumberIfGiven (codes "--calls") words
+unfolding takes
+calls-given words h = number-given profile_options (codes "--calls") 0 1 (lit< tt) (λ v e. grind (arith, e)) words h
 
 -- `--rare` is a number from 0 to 100
 pub rare-between : (words : List (List ℕ)) → are_options distill_options words ≡ true → (0 ≤ number_or 10 (codes "--rare") words) × (number_or 10 (codes "--rare") words ≤ 100)

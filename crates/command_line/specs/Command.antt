@@ -1,7 +1,7 @@
 -- What the words of the command line ask for. A word is its bytes.
-use Rattle.std.specs.Prelude.{ℕ, ◌^◌, ◌&&◌, if◌then◌else◌, List, [], ◌∷◌, codes, option_map, option_and_then, option_copied, is_some, is_none, Option, Some, None}
+use Rattle.std.specs.Prelude.{ℕ, ◌^◌, Bool, ◌&&◌, ◌==◌, if◌then◌else◌, List, [], ◌∷◌, ◌++◌, codes, option_map, option_and_then, option_copied, is_some, is_none, Option, Some, None}
 use Rattle.command_line.specs.declared.commands.Command.{Command as ReadCommand}
-use Rattle.command_line.specs.declared.commands.Command.TheVariants.{Run as ReadRun, Show as ReadShow, Replay as ReadReplay, Profile as ReadProfile, Distill as ReadDistill, Check as ReadCheck, Trial as ReadTrial}
+use Rattle.command_line.specs.declared.commands.Command.TheVariants.{Run as ReadRun, Show as ReadShow, Replay as ReadReplay, Profile as ReadProfile, Distill as ReadDistill, Check as ReadCheck, Certify as ReadCertify, Trial as ReadTrial}
 use Rattle.command_line.specs.declared.commands.Run.{Run as ReadRunCommand}
 use Rattle.command_line.specs.declared.commands.Replay.{Replay as ReadReplayCommand}
 use Rattle.command_line.specs.declared.commands.Walk.{Walk as ReadWalkCommand}
@@ -51,14 +51,16 @@ pub record TrialCommand : Type 0 where
   pub seed : ℕ
   pub size : ℕ
 
--- a command; `show IMAGE` has the name of the image
+-- a command; `show IMAGE` has the name of the image, `profile` whether short writes are counted, and `certify PROG IMAGE` the names of the program
+-- and of the image
 pub data Command : Type 0 where
   Run : RunCommand → Command
   Show : (image : List ℕ) → Command
   Replay : ReplayCommand → Command
-  Profile : WalkCommand → Command
+  Profile : WalkCommand → (calls : Bool) → Command
   Distill : DistillCommand → Command
   Check : WalkCommand → Command
+  Certify : (program image : List ℕ) → Command
   Trial : TrialCommand → Command
 
 -- the options of `run`
@@ -110,22 +112,36 @@ replay_of (program ∷ image ∷ events ∷ options) =
     })
     else None
 
--- the options of `profile` and `check`
-abbrev pub walk_options : List (List ℕ × Kind)
-walk_options = (codes "--input", File) ∷ (codes "--budget", Number 1 (10 ^ 12)) ∷ []
+-- the options of `check`, and those of `profile`
+abbrev pub check_options : List (List ℕ × Kind)
+check_options = (codes "--input", File) ∷ (codes "--budget", Number 1 (10 ^ 12)) ∷ []
 
--- what the words after `profile` or `check` ask for: two names, and then options
-abbrev pub walk_of : List (List ℕ) → Option WalkCommand
-walk_of [] = None
-walk_of (program ∷ []) = None
-walk_of (program ∷ other ∷ options) =
-    if is_name program && is_name other && are_options walk_options options
-    then Some (record {
-      program = program;
-      other = other;
-      input = value_of (codes "--input") options;
-      budget = number_or (10 ^ 9) (codes "--budget") options;
-    })
+abbrev pub profile_options : List (List ℕ × Kind)
+profile_options = check_options ++ (codes "--calls", Number 0 1) ∷ []
+
+-- a walk with options
+abbrev pub walk_with : List ℕ → List ℕ → List (List ℕ) → WalkCommand
+walk_with program other options = record {
+  program = program;
+  other = other;
+  input = value_of (codes "--input") options;
+  budget = number_or (10 ^ 9) (codes "--budget") options;
+}
+
+-- what the words after `check` ask for: two names, and then options
+abbrev pub check_of : List (List ℕ) → Option WalkCommand
+check_of [] = None
+check_of (program ∷ []) = None
+check_of (program ∷ other ∷ options) =
+    if is_name program && is_name other && are_options check_options options then Some (walk_with program other options) else None
+
+-- and after `profile`
+abbrev pub profile_of : List (List ℕ) → Option Command
+profile_of [] = None
+profile_of (program ∷ []) = None
+profile_of (program ∷ other ∷ options) =
+    if is_name program && is_name other && are_options profile_options options
+    then Some (Profile (walk_with program other options) (number_or 0 (codes "--calls") options == 1))
     else None
 
 -- the options of `distill`
@@ -155,6 +171,12 @@ distill_of (program ∷ profile ∷ output ∷ options) =
     then Some (distill_with program profile output options)
     else None
 
+-- what the words after `certify` ask for: two names, and no options
+abbrev pub certify_of : List (List ℕ) → Option Command
+certify_of [] = None
+certify_of (program ∷ []) = None
+certify_of (program ∷ image ∷ options) = if is_name program && is_name image && are_options [] options then Some (Certify program image) else None
+
 -- what the words after `trial` ask for: two numbers
 abbrev pub trial_of : List (List ℕ) → Option TrialCommand
 trial_of (seed ∷ size ∷ []) =
@@ -168,9 +190,10 @@ command_of (command ∷ words) =
     if same command (codes "run") then option_map Run (run_of words)
     else if same command (codes "show") then show_of words
     else if same command (codes "replay") then option_map Replay (replay_of words)
-    else if same command (codes "profile") then option_map Profile (walk_of words)
+    else if same command (codes "profile") then profile_of words
     else if same command (codes "distill") then option_map Distill (distill_of words)
-    else if same command (codes "check") then option_map Check (walk_of words)
+    else if same command (codes "check") then option_map Check (check_of words)
+    else if same command (codes "certify") then certify_of words
     else if same command (codes "trial") then option_map Trial (trial_of words)
     else None
 
@@ -220,7 +243,8 @@ abbrev pub shown : ReadCommand → Command
 shown (ReadRun run) = Run (shown_run run)
 shown (ReadShow image) = Show image.now
 shown (ReadReplay replay) = Replay (shown_replay replay)
-shown (ReadProfile walk) = Profile (shown_walk walk)
+shown (ReadProfile walk calls) = Profile (shown_walk walk) calls
 shown (ReadDistill distill) = Distill (shown_distill distill)
 shown (ReadCheck walk) = Check (shown_walk walk)
+shown (ReadCertify program image) = Certify program.now image.now
 shown (ReadTrial trial) = Trial (shown_trial trial)

@@ -106,11 +106,23 @@ pub enum Command<'a> {
     /// `replay`.
     Replay(Replay<'a>),
     /// `profile`: writes the profile of a run.
-    Profile(Walk<'a>),
+    Profile {
+        /// The program, and the name of the profile's file.
+        walk: Walk<'a>,
+        /// Whether short writes are counted, so that tasks may do them.
+        calls: bool,
+    },
     /// `distill`.
     Distill(Distill<'a>),
     /// `check`: tells whether a run meets the assumptions of an image.
     Check(Walk<'a>),
+    /// `certify PROG IMAGE`: tells whether an image fits a program, or which rule it breaks first.
+    Certify {
+        /// The name of the program's file.
+        program: &'a str,
+        /// The name of the image's file.
+        image: &'a str,
+    },
     /// `trial`.
     Trial(Trial),
 }

@@ -2,7 +2,7 @@
 #![tactic(auto)]
 
 ghost use Rattle.std.specs.Prelude.{◌≡◌, map, option_map, string_bytes};
-ghost use Rattle.command_line.specs.Command.{command_of, show_of, shown};
+ghost use Rattle.command_line.specs.Command.{command_of, show_of, certify_of, shown};
 
 mod commands;
 mod distill_words;
@@ -21,18 +21,34 @@ use crate::options::{Rule, are_options};
 use crate::replay_words::read_replay;
 use crate::run_words::read_run;
 use crate::trial_words::read_trial;
-use crate::walk_words::read_walk;
+use crate::walk_words::{read_check, read_profile};
 
-/// The options of `show`.
-const SHOW_OPTIONS: [Rule; 0] = [];
+/// The options of `show` and `certify`: none.
+const NO_OPTIONS: [Rule; 0] = [];
 
 /// What the words after `show` ask for.
 fn read_show(words: &[String]) -> Option<Command<'_>>
     ensures { option_map shown result ≡ show_of (map string_bytes words.now) }
 {
     match words {
-        [image, options @ ..] if !image.is_empty() && are_options(&SHOW_OPTIONS, options) => {
+        [image, options @ ..] if !image.is_empty() && are_options(&NO_OPTIONS, options) => {
             Some(Command::Show {
+                image: image.as_str(),
+            })
+        }
+        _ => None,
+    }
+}
+
+/// What the words after `certify` ask for.
+fn read_certify(words: &[String]) -> Option<Command<'_>>
+    ensures { option_map shown result ≡ certify_of (map string_bytes words.now) }
+{
+    match words {
+        [program, image, options @ ..]
+            if !program.is_empty() && !image.is_empty() && are_options(&NO_OPTIONS, options) => {
+            Some(Command::Certify {
+                program: program.as_str(),
                 image: image.as_str(),
             })
         }
@@ -53,9 +69,10 @@ fn read_show(words: &[String]) -> Option<Command<'_>>
 /// | `run PROG` | `--image F`, `--input F`, `--report F`, `--slaves` 1 to 64 (4), `--budget` 1 to 10^12 (10^9) |
 /// | `show IMAGE` | |
 /// | `replay PROG IMAGE EVENTS` | `--input F`, `--slaves` 1 to 64 (4) |
-/// | `profile PROG OUT` | `--input F`, `--budget` 1 to 10^12 (10^9) |
+/// | `profile PROG OUT` | `--input F`, `--budget` 1 to 10^12 (10^9), `--calls` 0 to 1 (0) |
 /// | `distill PROG PROFILE OUT` | `--rare` 0 to 100 (10), `--hot` 1 to 10^12 (2), `--goal` 1 to 65,536 (200), `--limit` 16 to 16,384 (4,096) |
 /// | `check PROG IMAGE` | `--input F`, `--budget` 1 to 10^12 (10^9) |
+/// | `certify PROG IMAGE` | |
 /// | `trial SEED SIZE` | |
 ///
 /// `trial` has two numbers in place of names, 0 to 10^12 and 1 to 10,000.
@@ -67,9 +84,10 @@ pub fn read_command(words: &[String]) -> Option<Command<'_>>
         "run" => read_run(rest).map(Command::Run),
         "show" => read_show(rest),
         "replay" => read_replay(rest).map(Command::Replay),
-        "profile" => read_walk(rest).map(Command::Profile),
+        "profile" => read_profile(rest),
         "distill" => read_distill(rest).map(Command::Distill),
-        "check" => read_walk(rest).map(Command::Check),
+        "check" => read_check(rest).map(Command::Check),
+        "certify" => read_certify(rest),
         "trial" => read_trial(rest),
         _ => None,
     }

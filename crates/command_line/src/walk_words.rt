@@ -1,40 +1,80 @@
-//! The words of `profile` and `check`: two names, an input and a budget.
-ghost use Rattle.std.specs.Prelude.{◌≡◌, map, option_map, string_bytes};
-ghost use Rattle.command_line.specs.Command.{walk_of, shown_walk};
+//! The words of `profile` and `check`: two names, an input and a budget, and what `profile` counts.
+ghost use Rattle.std.specs.Prelude.{◌≡◌, ◌≤◌, ◌^◌, codes, map, option_map, string_bytes};
+ghost use Rattle.command_line.specs.Options.{number_or, IsNumberIfGiven};
+ghost use Rattle.command_line.specs.Command.{check_of, profile_of, walk_with, shown, shown_walk};
 
-use crate::commands::Walk;
+use crate::commands::{Command, Walk};
 use crate::options::{Kind, Rule, are_options, number_or, value_of};
 use crate::run_words::{DEFAULT_BUDGET, MOST_BUDGET};
 
-/// The options of `profile` and of `check`.
-const WALK_OPTIONS: [Rule; 2] = [
-    Rule {
-        option: "--input",
-        value: Kind::File,
-    },
-    Rule {
-        option: "--budget",
-        value: Kind::Number {
-            least: 1,
-            most: MOST_BUDGET,
-        },
-    },
-];
+/// `--input`, of both.
+const INPUT: Rule = Rule {
+    option: "--input",
+    value: Kind::File,
+};
 
-/// What the words after `profile` or `check` ask for.
-pub(crate) fn read_walk(words: &[String]) -> Option<Walk<'_>>
-    ensures { option_map shown_walk result ≡ walk_of (map string_bytes words.now) }
+/// `--budget`, of both.
+const BUDGET: Rule = Rule {
+    option: "--budget",
+    value: Kind::Number {
+        least: 1,
+        most: MOST_BUDGET,
+    },
+};
+
+/// `--calls` of `profile`: 1 where short writes are counted.
+const CALLS: Rule = Rule {
+    option: "--calls",
+    value: Kind::Number { least: 0, most: 1 },
+};
+
+/// The options of `check`.
+const CHECK_OPTIONS: [Rule; 2] = [INPUT, BUDGET];
+
+/// The options of `profile`.
+const PROFILE_OPTIONS: [Rule; 3] = [INPUT, BUDGET, CALLS];
+
+// What the options after the two names ask of both.
+fn walk_with<'a>(program: &'a str, other: &'a str, options: &'a [String]) -> Walk<'a>
+    requires given { IsNumberIfGiven (codes "--budget") (map string_bytes options.now) }
+    requires least { 1 ≤ number_or (10 ^ 9) (codes "--budget") (map string_bytes options.now) }
+    requires most { number_or (10 ^ 9) (codes "--budget") (map string_bytes options.now) ≤ 10 ^ 12 }
+    ensures { shown_walk result ≡ walk_with program.now other.now (map string_bytes options.now) }
+{
+    Walk {
+        program,
+        other,
+        input: value_of(options, "--input"),
+        budget: number_or(options, "--budget", DEFAULT_BUDGET),
+    }
+}
+
+/// What the words after `check` ask for.
+pub(crate) fn read_check(words: &[String]) -> Option<Walk<'_>>
+    ensures { option_map shown_walk result ≡ check_of (map string_bytes words.now) }
 {
     match words {
         [program, other, options @ ..]
-            if !program.is_empty() && !other.is_empty() && are_options(&WALK_OPTIONS, options) => {
-            Some(Walk {
-                program: program.as_str(),
-                other: other.as_str(),
-                input: value_of(options, "--input"),
-                budget: number_or(options, "--budget", DEFAULT_BUDGET),
-            })
+            if !program.is_empty() && !other.is_empty() && are_options(&CHECK_OPTIONS, options) => {
+            Some(walk_with(program.as_str(), other.as_str(), options))
         }
+        _ => None,
+    }
+}
+
+/// What the words after `profile` ask for.
+pub(crate) fn read_profile(words: &[String]) -> Option<Command<'_>>
+    ensures { option_map shown result ≡ profile_of (map string_bytes words.now) }
+{
+    match words {
+        [program, other, options @ ..]
+            if !program.is_empty() && !other.is_empty() && are_options(&PROFILE_OPTIONS, options) =>
+            {
+                Some(Command::Profile {
+                    walk: walk_with(program.as_str(), other.as_str(), options),
+                    calls: number_or(options, "--calls", 0) == 1,
+                })
+            }
         _ => None,
     }
 }

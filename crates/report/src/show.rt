@@ -3,7 +3,7 @@ ghost use Rattle.std.specs.Prelude.{◌≡◌, ◌++◌, map, OnOk};
 ghost use Rattle.dist_image.specs.Image.{premise};
 ghost use Rattle.report.specs.Puts.{PutsText};
 ghost use Rattle.report.specs.Text.{hex_word, spaced};
-ghost use Rattle.report.specs.Show.{slot_line, anchor_line, note_line, kind_word, place_words, detail_words, premise_line, image_text, limit_line};
+ghost use Rattle.report.specs.Show.{slot_line, anchor_line, note_line, kind_word, place_words, detail_words, premise_line, write_line, head_text, places_text, facts_text, image_text};
 
 use crate::putting::{Entry, put_lines};
 use crate::text::{Word, push_line, push_words};
@@ -84,6 +84,7 @@ pub(crate) fn kind(assumption: &Assumption) -> &'static str
         Assumption::Code => "code",
         Assumption::Within => "within",
         Assumption::Span => "span",
+        Assumption::Same { .. } => "same",
     }
 }
 
@@ -93,9 +94,10 @@ pub(crate) fn push_place(out: &mut Vec<u8>, assumption: &Assumption) -> Result<(
         ≡ out.old.items ++ spaced (place_words (premise assumption.now))) }
 {
     match assumption {
-        Assumption::Cut { at, .. } | Assumption::Targets { at, .. } | Assumption::Dead { at } => {
-            push_words(out, &[Word::Hex(*at)])
-        }
+        Assumption::Cut { at, .. }
+        | Assumption::Targets { at, .. }
+        | Assumption::Dead { at }
+        | Assumption::Same { at, .. } => push_words(out, &[Word::Hex(*at)]),
         Assumption::Code | Assumption::Within | Assumption::Span => Ok(()),
     }
 }
@@ -118,6 +120,7 @@ fn push_detail(out: &mut Vec<u8>, assumption: &Assumption) -> Result<(), AllocEr
         Assumption::Cut { taken: true, .. } => push_words(out, &[Word::Text("taken")]),
         Assumption::Cut { taken: false, .. } => push_words(out, &[Word::Text("fallen")]),
         Assumption::Targets { to, .. } => push_targets(out, to),
+        Assumption::Same { value, .. } => push_words(out, &[Word::Hex(*value)]),
         _ => Ok(()),
     }
 }
@@ -133,18 +136,58 @@ impl Entry for Assumption {
     }
 }
 
-fn put_limit<O: Sink>(alloc: Global, o: &mut O, limit: u32) -> Result<(), SinkErr>
+/// The address of a call at which a task may print.
+impl Entry for u32 {
+    ghost text = { λ _ pc. write_line pc };
+
+    fn push(&self, out: &mut Vec<u8>, _number: u64) -> Result<(), AllocError> {
+        push_line(out, "writes", &[Word::Hex(*self)])
+    }
+}
+
+// Puts the version, unless it is the first, and the limit.
+fn push_head(out: &mut Vec<u8>, version: u32, limit: u32) -> Result<(), AllocError>
+    ensures { OnOk result (out.new.items ≡ out.old.items ++ head_text version limit) }
+{
+    if version != 1 {
+        push_line(out, "version", &[Word::Number(u64::from(version))])?;
+    }
+    push_line(out, "limit", &[Word::Number(u64::from(limit))])
+}
+
+fn put_head<O: Sink>(alloc: Global, o: &mut O, version: u32, limit: u32) -> Result<(), SinkErr>
     ensures { PutsText (O.told o.old) (O.told o.new) (O.faults o.old) (O.faults o.new)
-        (limit_line limit) result }
+        (head_text version limit) result }
 {
     let mut out = Vec::new(alloc);
-    match push_line(&mut out, "limit", &[Word::Number(u64::from(limit))]) {
+    match push_head(&mut out, version, limit) {
         Ok(()) => o.put(alloc, &out),
         Err(_) => Err(SinkErr::Memory),
     }
 }
 
-/// Puts the text of an image, a line for its limit and for each entry.
+// Puts the head of an image, its slots and its anchors.
+fn put_places<O: Sink>(alloc: Global, o: &mut O, i: &Image) -> Result<(), SinkErr>
+    ensures { PutsText (O.told o.old) (O.told o.new) (O.faults o.old) (O.faults o.new)
+        (places_text i.now) result }
+{
+    put_head(alloc, o, i.version, i.limit)?;
+    put_lines(alloc, o, &i.slots)?;
+    put_lines(alloc, o, &i.anchors)
+}
+
+// Puts the notes of an image, its assumptions and its writes.
+fn put_facts<O: Sink>(alloc: Global, o: &mut O, i: &Image) -> Result<(), SinkErr>
+    ensures { PutsText (O.told o.old) (O.told o.new) (O.faults o.old) (O.faults o.new)
+        (facts_text i.now) result }
+{
+    put_lines(alloc, o, &i.notes)?;
+    put_lines(alloc, o, &i.assumptions)?;
+    put_lines(alloc, o, &i.writes)
+}
+
+/// Puts the text of an image: a line for its version, unless that is the first, for its limit, and for
+/// each entry.
 ///
 /// # Errors
 ///
@@ -153,9 +196,6 @@ pub fn put_image<O: Sink>(alloc: Global, o: &mut O, i: &Image) -> Result<(), Sin
     ensures { PutsText (O.told o.old) (O.told o.new) (O.faults o.old) (O.faults o.new)
         (image_text i.now) result }
 {
-    put_limit(alloc, o, i.limit)?;
-    put_lines(alloc, o, &i.slots)?;
-    put_lines(alloc, o, &i.anchors)?;
-    put_lines(alloc, o, &i.notes)?;
-    put_lines(alloc, o, &i.assumptions)
+    put_places(alloc, o, i)?;
+    put_facts(alloc, o, i)
 }

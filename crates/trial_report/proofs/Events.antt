@@ -3,12 +3,18 @@ use Rattle.std.proofs.Common.{◌≡◌, ℕ, ◌+◌, ◌<◌, ◌≤◌, zero,
 use Rattle.std.proofs.lemmas.Bool.{cases_lt}
 use Rattle.std.specs.Prelude.{Option, Some, None, is_some}
 use Rattle.cells.specs.declared.End.{End}
-use Rattle.cells.specs.Run.{is_over, is_end}
+use Rattle.cells.specs.Run.{State, is_over, is_end}
 use Rattle.speculation.specs.declared.Event.{Event}
 use Rattle.speculation.specs.World.{World}
 use Rattle.speculation.specs.Engine.{Model, happens, fresh}
 use Rattle.schedules.specs.Schedule.{after}
+use Rattle.dist_image.specs.Image.{Distilled}
+use Rattle.image_world.specs.World.{world}
 use Rattle.event_list.specs.Draws.{Drawing, generator_of, generator_after, drawn_event, drawn}
+
+-- the same world, from its parts
+pub same_world : (s t : State) (i j : Distilled) (m n : ℕ) → s ≡ t → i ≡ j → m ≡ n → world s i m ≡ world t j n
+same_world s t i j m n a b c = λ z. world (a z) (b z) (c z)
 
 -- each is counted
 pub counted_after : (w : World) (event : ℕ → Event) (k : ℕ) → (after w event k).counts.events ≡ k

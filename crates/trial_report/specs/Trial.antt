@@ -12,7 +12,7 @@ use Rattle.seq_machine.specs.Parts.{start_of}
 use Rattle.dist_image.specs.Image.{Distilled}
 use Rattle.image_world.specs.World.{world}
 use Rattle.profile_data.specs.Profile.{Profiled}
-use Rattle.profile_laws.specs.Profiles.{steps, IsProfileOf, IsWide}
+use Rattle.profile_laws.specs.Profiles.{with_mark, steps, IsProfileOf, IsWide}
 use Rattle.assume_list.specs.declared.verdict.Verdict.{Verdict}
 use Rattle.assume_list.specs.Verdicts.{IsVerdict}
 use Rattle.distill_rules.specs.Analysed.{analysed}
@@ -37,7 +37,7 @@ options = record { rare = 0; hot = 2; goal = 200; limit = 1024 }
 
 -- the image of a program, by a profile of it
 abbrev pub image_of : Executable → Profiled → Distilled
-image_of p f = distilled (word_in p) p.entry f options
+image_of p f = distilled (word_in p) p.entry f [] options
 
 -- the machine is given events until the run has ended, or all have been given
 pub record IsTrialStop (w : World) (event : ℕ → Event) (k : ℕ) : Type 0 where
@@ -74,9 +74,9 @@ program_made seed size = program_of (file_of (words seed size))
 abbrev pub start_made : ℕ → ℕ → State
 start_made seed size = start_of (program_made seed size) []
 
--- its program's run has this profile
+-- its program's run has this profile, in which no call is counted
 abbrev pub IsProfileMade : ℕ → ℕ → Profiled → Type 0
-IsProfileMade seed size f = IsProfileOf (start_made seed size) (steps (start_made seed size) budget) f
+IsProfileMade seed size f = IsProfileOf (with_mark false) (start_made seed size) (steps (start_made seed size) budget) f
 
 -- There is one, not too wide, of which an image can be made. The events are drawn from the next number, since the program is drawn from this one.
 pub record IsTrial (seed size : ℕ) (f : Profiled) (text : List ℕ) : Type 0 where

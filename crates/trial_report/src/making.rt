@@ -1,11 +1,11 @@
 //! The program that a number makes, its profile and its image.
 
-ghost use Rattle.std.specs.Prelude.{◌≡◌, ◌≢◌, ◌≤◌, [], length, IfOk, IfErr, IsErrOf};
+ghost use Rattle.std.specs.Prelude.{◌≡◌, ◌≢◌, ◌≤◌, false, [], length, IfOk, IfErr, IsErrOf};
 ghost use Rattle.dist_image.specs.Image.{IsImage};
 ghost use Rattle.elf_reader.specs.Executable.{IsProgram};
 ghost use Rattle.seq_machine.specs.Parts.{start_of};
 ghost use Rattle.profile_data.specs.Profile.{Profiled};
-ghost use Rattle.profile_laws.specs.Profiles.{steps, IsProfileOf, IsWide};
+ghost use Rattle.profile_laws.specs.Profiles.{with_mark, steps, IsProfileOf, IsWide};
 ghost use Rattle.distill_rules.specs.Analysed.{analysed};
 ghost use Rattle.trial.specs.Made.{words};
 ghost use Rattle.trial_report.specs.Trial.{budget, image_of, program_made};
@@ -60,13 +60,13 @@ pub(crate) fn make_program(alloc: Global, seed: u64, size: u32) -> Result<Made, 
 /// The profile of the program's run.
 pub(crate) fn make_profile(alloc: Global, p: &Program) -> Result<Profile, TrialErr>
     requires { IsProgram p.now }
-    ensures profile { IfOk result (λ f. IsProfileOf (start_of p.now []) (steps (start_of p.now []) budget) f) }
+    ensures profile { IfOk result (λ f. IsProfileOf (with_mark false) (start_of p.now []) (steps (start_of p.now []) budget) f) }
     ensures narrow { IfOk result (λ f. IsWide f.rows → ⊥) }
     ensures wide { IfErr result (λ e. e ≡ TrialErr.Wide →
-        (f : Profiled) → IsProfileOf (start_of p.now []) (steps (start_of p.now []) budget) f → IsWide f.rows) }
+        (f : Profiled) → IsProfileOf (with_mark false) (start_of p.now []) (steps (start_of p.now []) budget) f → IsWide f.rows) }
     ensures never { IfErr result (λ e. e ≢ TrialErr.Empty) }
 {
-    match profile(alloc, p, Vec::new(alloc), BUDGET) {
+    match profile(alloc, p, Vec::new(alloc), BUDGET, false) {
         Ok(f) => Ok(f),
         Err(ProfilingErr::Wide) => Err(TrialErr::Wide),
         Err(ProfilingErr::Memory) => Err(TrialErr::Memory),

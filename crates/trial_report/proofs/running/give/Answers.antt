@@ -1,17 +1,11 @@
 -- One event after the other.
-use Rattle.std.proofs.Common.{◌≡◌, ℕ, not, refl, sym, ap, ◌∙◌, arith}
-use Rattle.cells.specs.Run.{State, is_over}
+use Rattle.std.proofs.Common.{not, refl, sym, ap, ◌∙◌, arith}
+use Rattle.cells.specs.Run.{is_over}
 use Rattle.speculation.specs.Engine.{Model}
 use Rattle.event_list.specs.Draws.{drawn}
-use Rattle.dist_image.specs.Image.{Distilled}
-use Rattle.image_world.specs.World.{world}
 use Rattle.engine.specs.Whole.{model_of, world_of}
-use Rattle.trial_report.proofs.Events.{counted_after, fresh_after, next_after, goes_on, first_draw, next_draw, drawn_so, still_on}
+use Rattle.trial_report.proofs.Events.{same_world, counted_after, fresh_after, next_after, goes_on, first_draw, next_draw, drawn_so, still_on}
 use Rattle.trial_report.proofs.running.give.Goals as goal
-
--- the same world, from its parts
-same_world : (s t : State) (i j : Distilled) (m n : ℕ) → s ≡ t → i ≡ j → m ≡ n → world s i m ≡ world t j n
-same_world s t i j m n a b c = λ z. world (a z) (b z) (c z)
 
 pub loop-given-init : goal.loop-given-init
 loop-given-init g c =

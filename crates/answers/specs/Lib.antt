@@ -1,0 +1,2 @@
+-- Answers, with their statuses and their lines.
+pub mod Answer
