@@ -10,8 +10,8 @@ use Rattle.dist_image.specs.Image.{Distilled, IsImage}
 use Rattle.image_world.specs.World.{world}
 use Rattle.schedules.specs.Schedule.{after, has_come}
 use Rattle.report.proofs.Gained.{part_before}
-use Rattle.mssp_tool.specs.declared.answer.Answer.{Answer}
-use Rattle.mssp_tool.specs.declared.answer.Answer.TheVariants.{Usage, Absent, StoreFault, SinkFault, Memory, TooLong, Refused, Done, Ran, Budget, Broken}
+use Rattle.answers.specs.declared.answer.Answer.{Answer}
+use Rattle.answers.specs.declared.answer.Answer.TheVariants.{Usage, Absent, StoreFault, SinkFault, Memory, TooLong, Refused, Done, Ran, Budget, Broken}
 use Rattle.mssp_tool.specs.declared.speculating.Schedule.{Schedule}
 use Rattle.mssp_tool.specs.Driven.{Stops, CutOff}
 use Rattle.mssp_tool.specs.Speculated.{events_of, IsStop}

@@ -8,7 +8,7 @@ use Rattle.cells.specs.Run.{State, is_over, printed}
 use Rattle.rv_run.specs.Machine.{machine}
 use Rattle.rv_run.specs.Calls.{call}
 use Rattle.command_line.specs.Command.{WalkCommand}
-use Rattle.dist_image.specs.Image.{Premise, Cut, Targets, Dead, Code, Within, Span, Distilled, IsImage, kind_of}
+use Rattle.dist_image.specs.Image.{Premise, Cut, Targets, Dead, Code, Within, Span, Same, Distilled, IsImage}
 use Rattle.elf_reader.specs.Executable.{Executable}
 use Rattle.seq_machine.specs.Parts.{start_of}
 use Rattle.fitting.specs.Fails.{state_at, Fails, Meets}
@@ -22,8 +22,8 @@ use Rattle.assume_list.specs.declared.verdict.Verdict.TheVariants as verdict
 use Rattle.assume_list.specs.Passes.{is_span}
 use Rattle.assume_list.specs.Verdicts.{IsLesser, IsVerdict}
 use Rattle.report.specs.Verdict.{verdict_line, IsOfList}
-use Rattle.mssp_tool.specs.declared.answer.Answer.{Answer}
-use Rattle.mssp_tool.specs.declared.answer.Answer.TheVariants.{Done, Broken}
+use Rattle.answers.specs.declared.answer.Answer.{Answer}
+use Rattle.answers.specs.declared.answer.Answer.TheVariants.{Done, Broken}
 use Rattle.mssp_tool.specs.Told.{Reads, Puts, Got}
 use Rattle.mssp_tool.specs.Check.{HasCheckFiles, verdict_answer, Judged, CheckCause, fails_at, is_met}
 
@@ -77,6 +77,7 @@ span_only (Dead at) h = absurd (true≢false (sym h))
 span_only Code h = absurd (true≢false (sym h))
 span_only Within h = absurd (true≢false (sym h))
 span_only Span h = refl
+span_only (Same at value) h = absurd (true≢false (sym h))
 
 -- ---- how many numbers pass
 
@@ -135,25 +136,21 @@ module _ (start : State) where
   module _ (image : Distilled) (valid : IsImage image) where
     -- ---- one position
 
-    tested_kind : (i : ℕ) (x : Premise) → fails_by (look_at start image i) x ≡ true → kind_of x < 5
-    tested_kind i (Cut at taken) f = omega arith
-    tested_kind i (Targets at to) f = omega arith
-    tested_kind i (Dead at) f = omega arith
-    tested_kind i Code f = omega arith
-    tested_kind i Within f = omega arith
-    tested_kind i Span f = absurd (true≢false (sym f))
+    no_span : (i : ℕ) (x : Premise) → fails_by (look_at start image i) x ≡ true → x ≡ Span → ⊥
+    no_span i x f is = absurd (true≢false (sym (ap (fails_by (look_at start image i)) (sym is) ∙ f)))
 
-    by_look : (i k : ℕ) (x : Premise) → slice_get image.assumptions k ≡ Some x → kind_of x < 5 → Fails start image x i → fails_at start image i ≡ true
+    by_look : (i k : ℕ) (x : Premise) → slice_get image.assumptions k ≡ Some x → (x ≡ Span → ⊥) → Fails start image x i → fails_at start image i ≡ true
     by_look i k x at kind f =
         or_left (is_some (first_failing start image i)) (is_some (first_from is_span 0 image.assumptions) && span_fails start image i)
         (has_first (fails_by (look_at start image i)) 0 image.assumptions k x at ((looks_tell start image i x kind).0 f))
 
     failing : (i k : ℕ) (x : Premise) → is_over (state_at start i) ≡ false → slice_get image.assumptions k ≡ Some x → Fails start image x i → fails_at start image i ≡ true
-    failing i k (Cut at taken) going here f = by_look i k (Cut at taken) here (omega arith) f
-    failing i k (Targets at to) going here f = by_look i k (Targets at to) here (omega arith) f
-    failing i k (Dead at) going here f = by_look i k (Dead at) here (omega arith) f
-    failing i k Code going here f = by_look i k Code here (omega arith) f
-    failing i k Within going here f = by_look i k Within here (omega arith) f
+    failing i k (Cut at taken) going here f = by_look i k (Cut at taken) here (λ e. cc) f
+    failing i k (Targets at to) going here f = by_look i k (Targets at to) here (λ e. cc) f
+    failing i k (Dead at) going here f = by_look i k (Dead at) here (λ e. cc) f
+    failing i k Code going here f = by_look i k Code here (λ e. cc) f
+    failing i k Within going here f = by_look i k Within here (λ e. cc) f
+    failing i k (Same at value) going here f = by_look i k (Same at value) here (λ e. cc) f
     failing i k Span going here f =
         or_right (is_some (first_failing start image i)) (is_some (first_from is_span 0 image.assumptions) && span_fails start image i)
         (and_from (is_some (first_from is_span 0 image.assumptions)) (span_fails start image i) (has_first is_span 0 image.assumptions k Span here refl) ((span_is_told start image valid i going).0 f))
@@ -163,7 +160,7 @@ module _ (start : State) where
         (λ (fails : fails_at start image i ≡ true). absurd (⊎_elim
         (λ (e : is_some (first_failing start image i) ≡ true).
         let r = found_first (fails_by (look_at start image i)) 0 image.assumptions e in
-        met i l going r.0 r.1 r.2 ((looks_tell start image i r.1 (tested_kind i r.1 r.3)).1 r.3))
+        met i l going r.0 r.1 r.2 ((looks_tell start image i r.1 (no_span i r.1 r.3)).1 r.3))
         (λ (e : (is_some (first_from is_span 0 image.assumptions) && span_fails start image i) ≡ true).
         let parts = and_parts (is_some (first_from is_span 0 image.assumptions)) (span_fails start image i) e in
         let r = found_first is_span 0 image.assumptions parts.0 in

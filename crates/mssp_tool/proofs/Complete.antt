@@ -1,26 +1,26 @@
 -- Where the store tells and nothing fails, an answer with its cause is the one that the files determine, or want of memory.
-use Rattle.std.proofs.Common.{◌≡◌, ℕ, ◌≤◌, ◌<◌, ◌⊎◌, inl, inr, List, length, Option, Some, None, refl, sym, ap, ◌∙◌, arith}
-use Rattle.std.specs.Prelude.{nat_lt, nat_eq, cond, false, ◌≢◌, [], ◌∷◌}
+use Rattle.std.proofs.Common.{◌≡◌, ℕ, ◌≤◌, ◌<◌, ◌⊎◌, inl, inr, List, length, Option, Some, None, refl, sym, ap, subst, ◌∙◌, arith}
+use Rattle.std.specs.Prelude.{nat_lt, nat_eq, cond, Bool, false, ◌≢◌, [], ◌∷◌}
 use Rattle.std.specs.FinMap as finite
 use Rattle.std.proofs.lemmas.Bool.{cond-true, cond-false}
 use Rattle.std.proofs.lemmas.Bool.Decides.{nat_tests}
 use Rattle.outside.specs.Files.{Files}
-use Rattle.command_line.specs.Command.{Command, Run, Show, Replay, Profile, Distill, Check, Trial, RunCommand, ReplayCommand, WalkCommand, DistillCommand, TrialCommand}
+use Rattle.command_line.specs.Command.{Command, Run, Show, Replay, Profile, Distill, Check, Certify, Trial, RunCommand, ReplayCommand, WalkCommand, DistillCommand, TrialCommand}
 use Rattle.dist_image.specs.Image.{Distilled}
 use Rattle.dist_image.specs.Reading.{image_from}
 use Rattle.elf_reader.specs.Refusal.{refusal}
 use Rattle.speculation.specs.declared.Event.{Event}
 use Rattle.event_list.specs.Reading.{list_in, written_out}
 use Rattle.profile_data.specs.Profile.{Profiled}
-use Rattle.profile_laws.specs.Profiles.{steps}
+use Rattle.profile_laws.specs.Profiles.{with_mark, steps}
 use Rattle.profile_laws.specs.Tally.{kept}
 use Rattle.report.specs.Show.{image_text}
-use Rattle.mssp_tool.specs.declared.answer.Source.{Source}
-use Rattle.mssp_tool.specs.declared.answer.Source.TheVariants as source
-use Rattle.mssp_tool.specs.declared.answer.Refusal.TheVariants as refused
-use Rattle.mssp_tool.specs.declared.answer.Answer.{Answer}
-use Rattle.mssp_tool.specs.declared.answer.Answer.TheVariants.{Usage, Absent, StoreFault, SinkFault, Memory, TooLong, Refused, Done, Ran, Budget, Broken}
-use Rattle.mssp_tool.specs.Told.{Reads, Puts, Fails, PutFails, Delivered}
+use Rattle.answers.specs.declared.answer.Source.{Source}
+use Rattle.answers.specs.declared.answer.Source.TheVariants as source
+use Rattle.answers.specs.declared.answer.Refusal.TheVariants as refused
+use Rattle.answers.specs.declared.answer.Answer.{Answer}
+use Rattle.answers.specs.declared.answer.Answer.TheVariants.{Usage, Absent, StoreFault, SinkFault, Memory, TooLong, Refused, Done, Ran, Budget, Broken}
+use Rattle.mssp_tool.specs.Told.{Reads, Puts, Fails, PutFails, Delivered, Spoken}
 use Rattle.mssp_tool.specs.Files.{IsReadFrom, NotRead, of_file, IsProgramOf, NoProgram, unless_refused, of_program, HasImage, NoImage, of_reading, of_image, IsNamedImage, NoNamedImage, of_named_image, HasEvents, NoEvents, of_events, IsInput, NoInput, of_input, Saved, HasProfile, NoProfile, of_profile, program_limit, image_limit, events_limit, profile_limit, input_limit}
 use Rattle.mssp_tool.specs.Driven.{CutOff, Driven, state_after, stands}
 use Rattle.mssp_tool.specs.Run.{Unready, AreRunFiles, RunFrom, RunCause, start_from, world_from, run_answer}
@@ -32,8 +32,10 @@ use Rattle.mssp_tool.specs.Replay.{Wanting, ReplayCause, replay_bytes, replay_an
 use Rattle.mssp_tool.specs.Profile.{Unprofiled, IsProfileFrom, Profiles, ProfileCause, is_wide, profile_answer}
 use Rattle.profile_data.specs.Reading.{profile_from}
 use Rattle.distill_rules.specs.Analysed.{analysed}
-use Rattle.assume_list.specs.declared.verdict.Verdict.{Verdict}
-use Rattle.mssp_tool.specs.Check.{Unchecked, verdict_answer, Judged, CheckCause, is_met, check_answer}
+use Rattle.certify.specs.declared.fit.Fit.{Fit}
+use Rattle.report.specs.Verdict.{verdict_line}
+use Rattle.mssp_tool.specs.Check.{Unchecked, verdict_answer, CheckCause, is_met, check_answer}
+use Rattle.mssp_tool.specs.Certify.{Uncertified, fit_line, fit_answer, CertifyCause, certify_answer, IsCertified}
 use Rattle.mssp_tool.proofs.Checks.{verdict_tested}
 use Rattle.mssp_tool.specs.Distill.{Undistilled, Distills, DistillCause, distill_answer}
 use Rattle.elf_reader.specs.Accepted.{program_of}
@@ -42,7 +44,7 @@ use Rattle.profile_data.specs.Profile.{Tally}
 use Rattle.profile_laws.specs.Profiles.{IsWide}
 use Rattle.trial_report.specs.Trial.{budget, start_made, IsProfileMade}
 use Rattle.mssp_tool.specs.Trial.{TrialCause, trial_answer}
-use Rattle.mssp_tool.specs.Top.{Cause, answer_of}
+use Rattle.mssp_tool.specs.Top.{Cause, IsAnswerOf}
 
 -- a told file within its limit leads on
 found : (file : Option (List ℕ)) (bytes : List ℕ) (limit : ℕ) (s : Source) (k : List ℕ → Answer) → file ≡ Some bytes → length bytes ≤ limit → of_file file limit s k ≡ k bytes
@@ -280,32 +282,32 @@ module _ (store : Reads) (out : Puts) (files : Files) (told : store.told ≡ Som
 
   -- ---- `profile`
 
-  module _ (w : WalkCommand) where
+  module _ (w : WalkCommand) (calls : Bool) where
     abbrev after_profiled_input : List ℕ → List ℕ → Answer
-    after_profiled_input p i = cond (is_wide (kept (start_from p i) (steps (start_from p i) w.budget)).rows) (Refused refused.Wide) Done
+    after_profiled_input p i = cond (is_wide (kept (with_mark calls) (start_from p i) (steps (start_from p i) w.budget)).rows) (Refused refused.Wide) Done
 
     abbrev after_profiled_program : List ℕ → Answer
     after_profiled_program p = of_input files w.input (after_profiled_input p)
 
-    unprofiled : (a : Answer) → Unprofiled store w a → Is a (profile_answer files w)
+    unprofiled : (a : Answer) → Unprofiled store w a → Is a (profile_answer files w calls)
     unprofiled a (inl h) = no_program w.program after_profiled_program a h
-    unprofiled a (inr (inl (p, h, n))) = is_also a (after_profiled_program p) (profile_answer files w) (sym (program w.program p after_profiled_program h)) (no_input w.input (after_profiled_input p) a n)
+    unprofiled a (inr (inl (p, h, n))) = is_also a (after_profiled_program p) (profile_answer files w calls) (sym (program w.program p after_profiled_program h)) (no_input w.input (after_profiled_input p) a n)
     unprofiled a (inr (inr m)) = inr m
 
-    profiled : (left : Option Files) (p i : List ℕ) (f : Profiled) (a : Answer) → IsProfileFrom p i w.budget f → Profiles f store left w.other a → Is a (after_profiled_input p i)
+    profiled : (left : Option Files) (p i : List ℕ) (f : Profiled) (a : Answer) → IsProfileFrom calls p i w.budget f → Profiles f store left w.other a → Is a (after_profiled_input p i)
     profiled left p i f a is (inl (wide, refusal_is, same)) =
-        inl (refusal_is ∙ sym (cond-true (is_wide (kept (start_from p i) (steps (start_from p i) w.budget)).rows) (Refused refused.Wide) Done
-        (ap is_wide (sym (its_rows (start_from p i) (steps (start_from p i) w.budget) f is)) ∙ wide_tested f.rows wide)))
+        inl (refusal_is ∙ sym (cond-true (is_wide (kept (with_mark calls) (start_from p i) (steps (start_from p i) w.budget)).rows) (Refused refused.Wide) Done
+        (ap is_wide (sym (its_rows (with_mark calls) (start_from p i) (steps (start_from p i) w.budget) f is)) ∙ wide_tested f.rows wide)))
     profiled left p i f a is (inr (narrow, s)) =
         is_also a Done (after_profiled_input p i)
-        (sym (cond-false (is_wide (kept (start_from p i) (steps (start_from p i) w.budget)).rows) (Refused refused.Wide) Done
-        (ap is_wide (sym (its_rows (start_from p i) (steps (start_from p i) w.budget) f is)) ∙ narrow_tested f.rows narrow)))
+        (sym (cond-false (is_wide (kept (with_mark calls) (start_from p i) (steps (start_from p i) w.budget)).rows) (Refused refused.Wide) Done
+        (ap is_wide (sym (its_rows (with_mark calls) (start_from p i) (steps (start_from p i) w.budget) f is)) ∙ narrow_tested f.rows narrow)))
         (saved left w.other _ a s)
 
-    profile_complete : (left : Option Files) (a : Answer) → ProfileCause store left w a → Is a (profile_answer files w)
+    profile_complete : (left : Option Files) (a : Answer) → ProfileCause store left w calls a → Is a (profile_answer files w calls)
     profile_complete left a (inl (h, same)) = unprofiled a h
     profile_complete left a (inr (p, i, f, hp, hi, is, s)) =
-        is_also a (after_profiled_input p i) (profile_answer files w) (sym (program w.program p after_profiled_program hp ∙ input w.input i (after_profiled_input p) hi)) (profiled left p i f a is s)
+        is_also a (after_profiled_input p i) (profile_answer files w calls) (sym (program w.program p after_profiled_program hp ∙ input w.input i (after_profiled_input p) hi)) (profiled left p i f a is s)
 
   -- ---- `distill`
 
@@ -334,18 +336,18 @@ module _ (store : Reads) (out : Puts) (files : Files) (told : store.told ≡ Som
 
   -- ---- `check`
 
-  judged : (i : Distilled) (v : Verdict) (a : Answer) → Judged i v out a → Is a (verdict_answer v)
-  judged i v SinkFault (rose, part) = absurd (puts rose)
-  judged i v Memory part = inr refl
-  judged i v Usage h = inl h.1
-  judged i v (Absent s) h = inl h.1
-  judged i v (StoreFault s) h = inl h.1
-  judged i v (TooLong s) h = inl h.1
-  judged i v (Refused r) h = inl h.1
-  judged i v Done h = inl h.1
-  judged i v (Ran pc end) h = inl h.1
-  judged i v Budget h = inl h.1
-  judged i v Broken h = inl h.1
+  spoken : (line : List ℕ) (end a : Answer) → Spoken out line end a → Is a end
+  spoken line end SinkFault (rose, part) = absurd (puts rose)
+  spoken line end Memory part = inr refl
+  spoken line end Usage h = inl h.1
+  spoken line end (Absent s) h = inl h.1
+  spoken line end (StoreFault s) h = inl h.1
+  spoken line end (TooLong s) h = inl h.1
+  spoken line end (Refused r) h = inl h.1
+  spoken line end Done h = inl h.1
+  spoken line end (Ran pc e) h = inl h.1
+  spoken line end Budget h = inl h.1
+  spoken line end Broken h = inl h.1
 
   module _ (w : WalkCommand) where
     abbrev after_checked_input : List ℕ → Distilled → List ℕ → Answer
@@ -370,19 +372,67 @@ module _ (store : Reads) (out : Puts) (files : Files) (told : store.told ≡ Som
         is_also a (verdict_answer v) (check_answer files w)
         (sym (program w.program p after_checked_program fs.program ∙ image w.other im (after_checked_image p) fs.has_image ∙ input w.input i (after_checked_input p im) fs.input
         ∙ verdict_tested (start_from p i) im fs.has_image.1.is_image w.budget v is))
-        (judged im v a j)
+        (spoken (verdict_line im v) (verdict_answer v) a j)
+
+  -- ---- `certify`
+
+  -- an answer that is the same whatever plays no part, or want of memory
+  either : (f : Fit → Answer) (a : Answer) → ((fit : Fit) → Is a (f fit)) → ((fit : Fit) → a ≡ f fit) ⊎ (a ≡ Memory)
+  either f a h = by a (λ fit. h fit)
+    where
+      sure : (b c : Answer) → (b ≡ Memory → ⊥) → Is b c → b ≡ c
+      sure b c other (inl e) = e
+      sure b c other (inr m) = absurd (other m)
+
+      by : (b : Answer) → ((fit : Fit) → Is b (f fit)) → ((fit : Fit) → b ≡ f fit) ⊎ (b ≡ Memory)
+      by Memory g = inr refl
+      by Usage g = inl (λ fit. sure Usage (f fit) (λ e. cc) (g fit))
+      by (Absent s) g = inl (λ fit. sure (Absent s) (f fit) (λ e. cc) (g fit))
+      by (StoreFault s) g = inl (λ fit. sure (StoreFault s) (f fit) (λ e. cc) (g fit))
+      by SinkFault g = inl (λ fit. sure SinkFault (f fit) (λ e. cc) (g fit))
+      by (TooLong s) g = inl (λ fit. sure (TooLong s) (f fit) (λ e. cc) (g fit))
+      by (Refused r) g = inl (λ fit. sure (Refused r) (f fit) (λ e. cc) (g fit))
+      by Done g = inl (λ fit. sure Done (f fit) (λ e. cc) (g fit))
+      by (Ran pc end) g = inl (λ fit. sure (Ran pc end) (f fit) (λ e. cc) (g fit))
+      by Budget g = inl (λ fit. sure Budget (f fit) (λ e. cc) (g fit))
+      by Broken g = inl (λ fit. sure Broken (f fit) (λ e. cc) (g fit))
+
+  module _ (named_program named_image : List ℕ) where
+    abbrev after_certified_image : Fit → Distilled → Answer
+    after_certified_image fit im = fit_answer fit
+
+    abbrev after_certified_program : Fit → List ℕ → Answer
+    after_certified_program fit p = of_image files named_image (after_certified_image fit)
+
+    uncertified : (a : Answer) → Uncertified store named_program named_image a → (fit : Fit) → Is a (certify_answer files named_program named_image fit)
+    uncertified a (inl h) fit = no_program named_program (after_certified_program fit) a h
+    uncertified a (inr (p, h, n)) fit =
+        is_also a (after_certified_program fit p) (certify_answer files named_program named_image fit) (sym (program named_program p (after_certified_program fit) h))
+        (no_image named_image (after_certified_image fit) a n)
+
+    certify_complete : (a : Answer) → CertifyCause store named_program named_image out a → IsCertified files named_program named_image a ⊎ (a ≡ Memory)
+    certify_complete a (inl (h, nothing)) = go (either (certify_answer files named_program named_image) a (uncertified a h))
+      where
+        go : ((fit : Fit) → a ≡ certify_answer files named_program named_image fit) ⊎ (a ≡ Memory) → IsCertified files named_program named_image a ⊎ (a ≡ Memory)
+        go (inl e) = inl (inl e)
+        go (inr m) = inr m
+    certify_complete a (inr (p, im, fit, hp, hi, is, s)) = go (spoken (fit_line fit) (fit_answer fit) a s)
+      where
+        go : Is a (fit_answer fit) → IsCertified files named_program named_image a ⊎ (a ≡ Memory)
+        go (inl e) = inl (inr (p, im, fit, subst (λ (d : Option Files). IsProgramOf d named_program p) told hp, subst (λ (d : Option Files). HasImage d named_image im) told hi, is, e))
+        go (inr m) = inr m
 
   -- ---- `trial`
 
   module _ (t : TrialCommand) where
     abbrev made_rows : List Tally
-    made_rows = (kept (start_made t.seed t.size) (steps (start_made t.seed t.size) budget)).rows
+    made_rows = (kept (with_mark false) (start_made t.seed t.size) (steps (start_made t.seed t.size) budget)).rows
 
     abbrev after_made : Answer
     after_made = cond (nat_eq (length (analysed made_rows)) 0) (Refused refused.Empty) Done
 
     made_so : (f : Profiled) → IsProfileMade t.seed t.size f → f.rows ≡ made_rows
-    made_so f is = its_rows (start_made t.seed t.size) (steps (start_made t.seed t.size) budget) f is
+    made_so f is = its_rows (with_mark false) (start_made t.seed t.size) (steps (start_made t.seed t.size) budget) f is
 
     narrow_made : (f : Profiled) → IsProfileMade t.seed t.size f → (IsWide f.rows → ⊥) → trial_answer t ≡ after_made
     narrow_made f is narrow = cond-false (is_wide made_rows) (Refused refused.Wide) after_made (ap is_wide (sym (made_so f is)) ∙ narrow_tested f.rows narrow)
@@ -398,12 +448,13 @@ module _ (store : Reads) (out : Puts) (files : Files) (told : store.told ≡ Som
         let some : nat_eq (length (analysed made_rows)) 0 ≡ false = ap (λ rows. nat_eq (length (analysed rows)) 0) (sym (made_so f h.profile)) ∙ some_tested (analysed f.rows) h.some in
         is_also a Done (trial_answer t) (sym (narrow_made f h.profile h.narrow ∙ cond-false (nat_eq (length (analysed made_rows)) 0) (Refused refused.Empty) Done some)) (delivered text a d)
 
-  pub complete : (left : Option Files) (command : Option Command) (a : Answer) → Cause store left command out a → (a ≡ answer_of files command) ⊎ (a ≡ Memory)
+  pub complete : (left : Option Files) (command : Option Command) (a : Answer) → Cause store left command out a → IsAnswerOf files command a ⊎ (a ≡ Memory)
   complete left None a h = inl h.0
   complete left (Some (Run r)) a h = run_complete r left a h
   complete left (Some (Show name)) a h = show_complete name a h.0
   complete left (Some (Replay r)) a h = replay_complete r a h.0
-  complete left (Some (Profile w)) a h = profile_complete w left a h.0
+  complete left (Some (Profile w calls)) a h = profile_complete w calls left a h.0
   complete left (Some (Distill d)) a h = distill_complete d left a h.0
   complete left (Some (Check w)) a h = check_complete w a h.0
+  complete left (Some (Certify program image)) a h = certify_complete program image a h.0
   complete left (Some (Trial t)) a h = trial_complete t a h.0

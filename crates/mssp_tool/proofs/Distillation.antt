@@ -6,9 +6,9 @@ use Rattle.dist_image.specs.Bytes.{bytes_of}
 use Rattle.elf_reader.specs.Executable.{Executable}
 use Rattle.profile_data.specs.Profile.{Profiled}
 use Rattle.distill_rules.specs.Analysed.{analysed}
-use Rattle.mssp_tool.specs.declared.answer.Refusal.TheVariants.{Empty}
-use Rattle.mssp_tool.specs.declared.answer.Answer.{Answer}
-use Rattle.mssp_tool.specs.declared.answer.Answer.TheVariants.{Refused}
+use Rattle.answers.specs.declared.answer.Refusal.TheVariants.{Empty}
+use Rattle.answers.specs.declared.answer.Answer.{Answer}
+use Rattle.answers.specs.declared.answer.Answer.TheVariants.{Refused}
 use Rattle.mssp_tool.specs.Files.{HasProgram, HasProfile, Saved}
 use Rattle.mssp_tool.specs.Distill.{image_of, DistillCause}
 use Rattle.mssp_tool.proofs.Saves.{saved_within}

@@ -4,8 +4,8 @@ use Rattle.std.proofs.lemmas.List.{length-append}
 use Rattle.outside.specs.Answers.{Gains}
 use Rattle.cells.specs.Run.{State, iterate}
 use Rattle.rv_run.specs.Calls.{step}
-use Rattle.mssp_tool.specs.declared.answer.Answer.{Answer}
-use Rattle.mssp_tool.specs.declared.answer.Answer.TheVariants.{Usage, Absent, StoreFault, SinkFault, Memory, TooLong, Refused, Done, Ran, Budget, Broken}
+use Rattle.answers.specs.declared.answer.Answer.{Answer}
+use Rattle.answers.specs.declared.answer.Answer.TheVariants.{Usage, Absent, StoreFault, SinkFault, Memory, TooLong, Refused, Done, Ran, Budget, Broken}
 use Rattle.report.proofs.Gained.{part_before}
 use Rattle.mssp_tool.specs.Driven.{Driven, Stops, state_after, stopped_at, stands}
 use Rattle.mssp_tool.specs.Told.{Puts, Got}

@@ -12,8 +12,8 @@ use Rattle.image_world.specs.World.{world}
 use Rattle.schedules.specs.Schedule.{after}
 use Rattle.schedules.specs.Laws.{StopsAt}
 use Rattle.command_line.specs.Command.{RunCommand}
-use Rattle.mssp_tool.specs.declared.answer.Answer.{Answer}
-use Rattle.mssp_tool.specs.declared.answer.Answer.TheVariants.{Usage, Absent, StoreFault, SinkFault, Memory, TooLong, Refused, Done, Ran, Budget, Broken}
+use Rattle.answers.specs.declared.answer.Answer.{Answer}
+use Rattle.answers.specs.declared.answer.Answer.TheVariants.{Usage, Absent, StoreFault, SinkFault, Memory, TooLong, Refused, Done, Ran, Budget, Broken}
 use Rattle.mssp_tool.specs.Told.{Reads, Puts, Got}
 use Rattle.mssp_tool.specs.Driven.{state_after, stopped_at, stands}
 use Rattle.mssp_tool.specs.Speculated.{schedule_of, events_of, IsStop}

@@ -1,5 +1,5 @@
 -- The profile of the run of the files that were read.
-use Rattle.std.proofs.Common.{◌≡◌, ℕ, ◌≤◌, arith, inl, inr, true, false, List, length, Option, refl, subst}
+use Rattle.std.proofs.Common.{◌≡◌, ℕ, ◌≤◌, arith, inl, inr, Bool, true, false, List, length, Option, refl, subst}
 use Rattle.std.proofs.lemmas.Bool.Decides.{nat_tests}
 use Rattle.outside.specs.Files.{Files}
 use Rattle.cells.specs.Run.{State}
@@ -9,13 +9,13 @@ use Rattle.elf_reader.specs.Accepted.{program_of}
 use Rattle.seq_machine.specs.Parts.{start_of}
 use Rattle.profile_data.specs.Profile.{Tally, Profiled, target_count}
 use Rattle.profile_data.specs.Bytes.{bytes_of}
-use Rattle.profile_laws.specs.Profiles.{steps, IsProfileOf, IsWide}
+use Rattle.profile_laws.specs.Profiles.{with_mark, steps, IsProfileOf, IsWide}
 use Rattle.profile_laws.specs.Tally.{kept, profile_of}
 use Rattle.profile_laws.proofs.Law.{tally_is_profile}
 use Rattle.profile_laws.proofs.One.{profile_is_one}
-use Rattle.mssp_tool.specs.declared.answer.Refusal.TheVariants.{Wide}
-use Rattle.mssp_tool.specs.declared.answer.Answer.{Answer}
-use Rattle.mssp_tool.specs.declared.answer.Answer.TheVariants.{Refused}
+use Rattle.answers.specs.declared.answer.Refusal.TheVariants.{Wide}
+use Rattle.answers.specs.declared.answer.Answer.{Answer}
+use Rattle.answers.specs.declared.answer.Answer.TheVariants.{Refused}
 use Rattle.mssp_tool.specs.Files.{Saved}
 use Rattle.mssp_tool.specs.Profile.{HasRun, ProfileCause, is_wide}
 use Rattle.mssp_tool.proofs.Saves.{saved_within}
@@ -32,25 +32,25 @@ narrow_tested rows h =
     grind (arith, nat_tests)
 
 -- a run has one profile, whose rows are those of the tally
-pub its_rows : (start : State) (n : ℕ) (f : Profiled) → IsProfileOf start n f → f.rows ≡ (kept start n).rows
-its_rows start n f h = λ k. (profile_is_one start n f (profile_of start n) h (tally_is_profile start n) k).rows
+pub its_rows : (prints : ℕ → Bool) (start : State) (n : ℕ) (f : Profiled) → IsProfileOf prints start n f → f.rows ≡ (kept prints start n).rows
+its_rows prints start n f h = λ k. (profile_is_one prints start n f (profile_of prints start n) h (tally_is_profile prints start n) k).rows
 
-module _ (w : WalkCommand) (told : Option Files) (program : Executable) (i : List ℕ) (has : HasRun told w program i) where
+module _ (w : WalkCommand) (calls : Bool) (told : Option Files) (program : Executable) (i : List ℕ) (has : HasRun told w program i) where
   abbrev begin : State
   begin = start_of program i
 
   -- it is that of the files
-  of_files : (f : Profiled) → IsProfileOf begin (steps begin w.budget) f → IsProfileOf (start_of (program_of has.0.0) i) (steps (start_of (program_of has.0.0) i) w.budget) f
-  of_files f h = subst (λ (x : Executable). IsProfileOf (start_of x i) (steps (start_of x i) w.budget) f) has.0.2 h
+  of_files : (f : Profiled) → IsProfileOf (with_mark calls) begin (steps begin w.budget) f → IsProfileOf (with_mark calls) (start_of (program_of has.0.0) i) (steps (start_of (program_of has.0.0) i) w.budget) f
+  of_files f h = subst (λ (x : Executable). IsProfileOf (with_mark calls) (start_of x i) (steps (start_of x i) w.budget) f) has.0.2 h
 
-  pub written_cause : (told' left : Option Files) (before mid now : ℕ) (f : Profiled) (a : Answer) → told' ≡ told → before ≤ mid → IsProfileOf begin (steps begin w.budget) f → (IsWide f.rows → ⊥)
-      → Saved (record { told = told'; before = mid; now = now }) left w.other (bytes_of f) a → ProfileCause (record { told = told; before = before; now = now }) left w a
+  pub written_cause : (told' left : Option Files) (before mid now : ℕ) (f : Profiled) (a : Answer) → told' ≡ told → before ≤ mid → IsProfileOf (with_mark calls) begin (steps begin w.budget) f → (IsWide f.rows → ⊥)
+      → Saved (record { told = told'; before = mid; now = now }) left w.other (bytes_of f) a → ProfileCause (record { told = told; before = before; now = now }) left w calls a
   written_cause told' left before mid now f a same l h narrow s =
       inr (has.0.0, i, f, has.0.1, has.1, of_files f h, inr (narrow, saved_within told told' left before mid now w.other (bytes_of f) a same l s))
 
-  pub wide_cause : (left : Option Files) (before now : ℕ) → left ≡ told → ((f : Profiled) → IsProfileOf begin (steps begin w.budget) f → IsWide f.rows)
-      → ProfileCause (record { told = told; before = before; now = now }) left w (Refused Wide)
+  pub wide_cause : (left : Option Files) (before now : ℕ) → left ≡ told → ((f : Profiled) → IsProfileOf (with_mark calls) begin (steps begin w.budget) f → IsWide f.rows)
+      → ProfileCause (record { told = told; before = before; now = now }) left w calls (Refused Wide)
   wide_cause left before now same h =
-      let f = profile_of begin (steps begin w.budget) in
-      let is = tally_is_profile begin (steps begin w.budget) in
+      let f = profile_of (with_mark calls) begin (steps begin w.budget) in
+      let is = tally_is_profile (with_mark calls) begin (steps begin w.budget) in
       inr (has.0.0, i, f, has.0.1, has.1, of_files f is, inl (h f is, refl, same))

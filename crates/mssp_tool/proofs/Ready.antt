@@ -5,13 +5,13 @@ use Rattle.outside.specs.Files.{Files}
 use Rattle.dist_image.specs.Image.{Distilled}
 use Rattle.dist_image.specs.declared.error.ImageErr.{ImageErr}
 use Rattle.dist_image.specs.Reading.{image_from}
-use Rattle.mssp_tool.specs.declared.answer.Refusal.TheVariants as refused
-use Rattle.mssp_tool.specs.declared.answer.Source.{Source}
-use Rattle.mssp_tool.specs.declared.answer.Refusal.{Refusal}
-use Rattle.mssp_tool.specs.declared.answer.Answer.{Answer}
-use Rattle.mssp_tool.specs.declared.answer.Answer.TheVariants.{Usage, Absent, StoreFault, SinkFault, Memory, TooLong, Refused, Done, Ran, Budget, Broken}
+use Rattle.answers.specs.declared.answer.Refusal.TheVariants as refused
+use Rattle.answers.specs.declared.answer.Source.{Source}
+use Rattle.answers.specs.declared.answer.Refusal.{Refusal}
+use Rattle.answers.specs.declared.answer.Answer.{Answer}
+use Rattle.answers.specs.declared.answer.Answer.TheVariants.{Usage, Absent, StoreFault, SinkFault, Memory, TooLong, Refused, Done, Ran, Budget, Broken}
 use Rattle.mssp_tool.specs.Files.{NotRead, NotAccepted, IsReadFrom, IsNamedImage, NoNamedImage, NoInput, IsInput, image_limit, input_limit}
-use Rattle.mssp_tool.specs.declared.answer.Source.TheVariants as source
+use Rattle.answers.specs.declared.answer.Source.TheVariants as source
 
 -- a count that rose in a part of a call rose in the call
 rose_within : (before mid now : ℕ) → before ≤ mid → Rose mid now → Rose before now

@@ -13,8 +13,8 @@ use Rattle.image_world.proofs.Known.{known}
 use Rattle.event_list.specs.Reading.{written_out}
 use Rattle.report.specs.Puts.{PutsText}
 use Rattle.command_line.specs.Command.{ReplayCommand}
-use Rattle.mssp_tool.specs.declared.answer.Answer.{Answer}
-use Rattle.mssp_tool.specs.declared.answer.Answer.TheVariants.{SinkFault, Memory, Done}
+use Rattle.answers.specs.declared.answer.Answer.{Answer}
+use Rattle.answers.specs.declared.answer.Answer.TheVariants.{SinkFault, Memory, Done}
 use Rattle.mssp_tool.specs.Told.{Reads, Delivered}
 use Rattle.mssp_tool.specs.Run.{start_from}
 use Rattle.mssp_tool.specs.Replay.{replay_bytes, IsOfTheRun, IsReady, ReplayCause}

@@ -8,6 +8,7 @@ use Rattle.std.specs.Cmp.Lexicographic.{slice_cmp, texts_ties, bytes_decides, na
 use Rattle.std.proofs.Common.{subst}
 use Rattle.outside.specs.Answers.{OthersStay}
 use Rattle.outside.specs.Files.{Files}
+use Rattle.cells.specs.declared.End.{End}
 use Rattle.cells.specs.Run.{State}
 use Rattle.command_line.specs.Command.{RunCommand}
 use Rattle.dist_image.specs.Image.{Distilled}
@@ -16,10 +17,12 @@ use Rattle.speculation.specs.World.{World}
 use Rattle.speculation.specs.Engine.{Model}
 use Rattle.schedules.specs.Schedule.{after}
 use Rattle.mssp_tool.specs.declared.speculating.Schedule.{Schedule}
+use Rattle.report.specs.Events.{summary_text}
 use Rattle.report.proofs.Gained.{part_before}
-use Rattle.mssp_tool.specs.declared.answer.Answer.{Answer}
-use Rattle.mssp_tool.specs.declared.answer.Answer.TheVariants.{Usage, Absent, StoreFault, SinkFault, Memory, TooLong, Refused, Done, Ran, Budget, Broken}
+use Rattle.answers.specs.declared.answer.Answer.{Answer}
+use Rattle.answers.specs.declared.answer.Answer.TheVariants.{Usage, Absent, StoreFault, SinkFault, Memory, TooLong, Refused, Done, Ran, Budget, Broken}
 use Rattle.mssp_tool.specs.Told.{Reads, Puts, Got, OnlyChanges, Written}
+use Rattle.mssp_tool.specs.Driven.{stopped_at, stands, CutOff}
 use Rattle.mssp_tool.specs.Speculated.{schedule_of, events_of, IsStop, Unwritten, Stopped, Speculated}
 use Rattle.mssp_tool.specs.Run.{AreRunFiles, Reported, RunFrom, RunCause, start_from, world_from}
 
@@ -44,6 +47,48 @@ pub unwritten_run : (w : World) (s t : Schedule) (slaves budget : ℕ) (m : Mode
     → Unwritten store left name a → Speculated w (events_of t slaves) budget name store left out a
 unwritten_run w s t slaves budget m name store left out a same (k, stop, is, got) h =
     subst (λ (x : Schedule). Speculated w (events_of x slaves) budget name store left out a) same (k, stop, unwritten (after w (events_of s slaves) k) name store left out a got h)
+
+-- it was cut off before
+cut : (m : Model) (name : List ℕ) (store : Reads) (left : Option Files) (out : Puts) (a : Answer) → CutOff out m.committed.env.output a → left ≡ store.told → Stopped m name store left out a
+cut m name store left out SinkFault h same = (h, same)
+cut m name store left out Memory h same = (h, same)
+cut m name store left out (StoreFault s) h same = absurd h
+cut m name store left out Usage h same = absurd h
+cut m name store left out Broken h same = absurd h
+cut m name store left out (Absent s) h same = absurd h
+cut m name store left out (TooLong s) h same = absurd h
+cut m name store left out (Refused e) h same = absurd h
+cut m name store left out Done h same = absurd h
+cut m name store left out (Ran pc end) h same = absurd h
+cut m name store left out Budget h same = absurd h
+
+pub cut_run : (w : World) (s t : Schedule) (slaves budget : ℕ) (name : List ℕ) (store : Reads) (left : Option Files) (out : Puts) (a : Answer) → s ≡ t
+    → (k : ℕ) × IsStop w (events_of s slaves) budget k × CutOff out (after w (events_of s slaves) k).committed.env.output a
+    → left ≡ store.told → Speculated w (events_of t slaves) budget name store left out a
+cut_run w s t slaves budget name store left out a same (k, stop, h) stays =
+    subst (λ (x : Schedule). Speculated w (events_of x slaves) budget name store left out a) same (k, stop, cut (after w (events_of s slaves) k) name store left out a h stays)
+
+-- it completed
+completed : (m : Model) (name : List ℕ) (store : Reads) (left : Option Files) (out : Puts) → Got out m.committed.env.output → Written store.told left name (summary_text m)
+    → Stopped m name store left out (stands m.committed)
+completed m name store left out got wrote = by m.committed.env.over refl
+  where
+    by : (o : Option End) → m.committed.env.over ≡ o → Stopped m name store left out (stands m.committed)
+    by None e =
+        let is : stands m.committed ≡ Budget = ap (stopped_at m.committed.arch.pc) e in
+        subst (Stopped m name store left out) (sym is) (got, wrote, sym is)
+    by (Some end) e =
+        let is : stands m.committed ≡ Ran m.committed.arch.pc end = ap (stopped_at m.committed.arch.pc) e in
+        subst (Stopped m name store left out) (sym is) (got, wrote, sym is)
+
+pub completed_run : (w : World) (s t : Schedule) (slaves budget : ℕ) (m : Model) (name : List ℕ) (store : Reads) (left : Option Files) (out : Puts) (a : Answer) → s ≡ t
+    → (k : ℕ) × IsStop w (events_of s slaves) budget k × (m ≡ after w (events_of s slaves) k) × Got out (after w (events_of s slaves) k).committed.env.output
+    → Written store.told left name (summary_text m) → a ≡ stands m.committed → Speculated w (events_of t slaves) budget name store left out a
+completed_run w s t slaves budget m name store left out a same (k, stop, is, got) wrote stood_so =
+    let event = events_of s slaves in
+    let whole = completed (after w event k) name store left out got (subst (λ (x : Model). Written store.told left name (summary_text x)) is wrote) in
+    subst (λ (x : Schedule). Speculated w (events_of x slaves) budget name store left out a) same
+    (k, stop, subst (Stopped (after w event k) name store left out) (sym (stood_so ∙ ap (λ (x : Model). stands x.committed) is)) whole)
 
 -- ---- the files that stay
 

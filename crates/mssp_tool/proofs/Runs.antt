@@ -9,8 +9,9 @@ use Rattle.cells.specs.Bytes.{bytes_from}
 use Rattle.cells.specs.Run.{State, is_over, is_end, iterate, printed}
 use Rattle.rv_run.specs.declared.Flow.{Flow}
 use Rattle.rv_run.specs.declared.Flow.TheVariants.{Next, Call, Break, Illegal, Misfetch}
+use Rattle.rv_run.specs.Effect.{is_output}
 use Rattle.rv_run.specs.Machine.{machine}
-use Rattle.rv_run.specs.Calls.{step, call, called, stopped, flow_at, read, read_some, write, write_some, write_count, brk, answers, minus, ended, is_output}
+use Rattle.rv_run.specs.Calls.{step, call, called, stopped, flow_at, read, read_some, write, write_some, write_count, brk, answers, minus, ended}
 use Rattle.mssp_tool.specs.Driven.{state_after}
 
 -- t has the output of s, and maybe more behind it

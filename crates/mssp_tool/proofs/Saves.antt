@@ -2,8 +2,8 @@
 use Rattle.std.proofs.Common.{◌≡◌, ℕ, ◌≤◌, arith, List, Option, subst, ◌∙◌}
 use Rattle.outside.specs.Answers.{OthersStay}
 use Rattle.outside.specs.Files.{Files}
-use Rattle.mssp_tool.specs.declared.answer.Answer.{Answer}
-use Rattle.mssp_tool.specs.declared.answer.Answer.TheVariants.{Usage, Absent, StoreFault, SinkFault, Memory, TooLong, Refused, Done, Ran, Budget, Broken}
+use Rattle.answers.specs.declared.answer.Answer.{Answer}
+use Rattle.answers.specs.declared.answer.Answer.TheVariants.{Usage, Absent, StoreFault, SinkFault, Memory, TooLong, Refused, Done, Ran, Budget, Broken}
 use Rattle.mssp_tool.specs.Told.{Reads, Written}
 use Rattle.mssp_tool.specs.Files.{Saved}
 use Rattle.mssp_tool.proofs.Reports.{others_stay, same_stay}

@@ -1,6 +1,6 @@
 -- A machine that is given events: it comes to a stop, its output only grows, and what it is given is counted.
 use Rattle.std.proofs.Common.{◌≡◌, ℕ, ◌+◌, ◌-◌, ◌*◌, ◌^◌, ◌<◌, ◌≤◌, zero, suc, Bool, true, false, cond, ◌||◌, List, [], ◌∷◌, Option, Some, None, refl, sym, ap, subst, ◌∙◌, arith, inl, inr, true≢false}
-use Rattle.std.specs.Prelude.{nat_lt, nat_le, length}
+use Rattle.std.specs.Prelude.{nat_eq, nat_lt, nat_le, length}
 use Rattle.std.proofs.lemmas.Bool.{cases_lt, leb-false}
 use Rattle.std.proofs.Math.Nat.{mul-le-mul_right, mul-le-mul_left}
 use Rattle.cells.specs.declared.Differ.{Differ}
@@ -16,7 +16,7 @@ use Rattle.speculation.specs.World.{World, IsWorld, Master, Driven, Goes, Spawns
 use Rattle.speculation.specs.Task.{Task, AreTasks, differ_at}
 use Rattle.speculation.specs.Engine.{Model, restart, serial_step, driven, master_step, jumped, committed_as, commit_front, commit, counted, going_on, happens, fresh}
 use Rattle.speculation_laws.proofs.Answers.{settled_still}
-use Rattle.dist_image.specs.Image.{Distilled, IsImage}
+use Rattle.dist_image.specs.Image.{Distilled, IsImage, most_steps}
 use Rattle.image_world.specs.World.{world}
 use Rattle.image_world.proofs.Known.{known, spends}
 use Rattle.schedules.specs.Schedule.{after, has_come, IsFirstStop}
@@ -127,6 +127,10 @@ or_false : (a b : Bool) → (a || b) ≡ false → b ≡ false
 or_false false b e = e
 or_false true b e = absurd (true≢false e)
 
+-- the longest task of either version
+most_steps_few : (version : ℕ) → most_steps version ≤ 16384
+most_steps_few version = elim (nat_eq version 1) as (λ b. cond b 16384 4096 ≤ 16384) [ true ↦ omega arith | false ↦ omega arith ]
+
 -- ---- the world of a run beside an image
 
 module _ (start : State) (image : Distilled) (slaves : ℕ) (ok : IsImage image) (some : 0 < slaves) where
@@ -135,6 +139,9 @@ module _ (start : State) (image : Distilled) (slaves : ℕ) (ok : IsImage image)
 
   abbrev is_known : IsWorld w
   is_known = known start image slaves ok some
+
+  short : image.limit ≤ 16384
+  short = let l = ok.limit.1 in let few = most_steps_few image.version in omega (arith, l, few)
 
   pub comes : (s : Schedule) (far k : ℕ) → has_come far (after w (events_of s slaves) k) ≡ false → k < most s w far
   comes Rounds far k not_yet = rounds_come w is_known (spends start image slaves) far k not_yet
@@ -164,7 +171,7 @@ module _ (start : State) (image : Distilled) (slaves : ℕ) (ok : IsImage image)
   pub few_events : (s : Schedule) (far : ℕ) → slaves ≤ 64 → far ≤ 10 ^ 12 → most s w far < 2 ^ 64 - 1
   few_events Alone far few bounded = omega (arith, bounded)
   few_events Rounds far few bounded =
-      let limit : 5 * image.limit + 7 ≤ 81927 = let l = ok.limit.1 in omega (arith, l) in
+      let limit : 5 * image.limit + 7 ≤ 81927 = let l = short in omega (arith, l) in
       let a : (5 * image.limit + 7) * far ≤ 81927 * far = mul-le-mul_right far limit in
       let b : 81927 * far ≤ 81927 * 10 ^ 12 = omega (arith, bounded) in
       let turns : slaves + 7 ≤ 71 = omega (arith, few) in
@@ -209,7 +216,7 @@ module _ (start : State) (image : Distilled) (slaves : ℕ) (ok : IsImage image)
         record {
           first = stop;
           sequential = stops w is_known runs event far k stop;
-          near = let near = near_stop far k least stop in let l = ok.limit.1 in omega (arith, near, l);
+          near = let near = near_stop far k least stop in let l = short in omega (arith, near, l);
         }
 
 -- none yet

@@ -6,7 +6,7 @@ use Rattle.cells.specs.declared.End.{End}
 use Rattle.cells.specs.Run.{State, is_over}
 use Rattle.command_line.specs.Command.{Run, Replay, RunCommand, ReplayCommand, shown, shown_run, shown_replay}
 use Rattle.command_line.specs.declared.commands.Command.{Command as ReadCommand}
-use Rattle.command_line.specs.declared.commands.Command.TheVariants.{Run as ReadRun, Show as ReadShow, Replay as ReadReplay, Profile as ReadProfile, Distill as ReadDistill, Check as ReadCheck, Trial as ReadTrial}
+use Rattle.command_line.specs.declared.commands.Command.TheVariants.{Run as ReadRun, Show as ReadShow, Replay as ReadReplay, Profile as ReadProfile, Distill as ReadDistill, Check as ReadCheck, Certify as ReadCertify, Trial as ReadTrial}
 use Rattle.speculation.specs.declared.Counts.{Counts}
 use Rattle.speculation.specs.declared.Effect.{Effect}
 use Rattle.speculation.specs.declared.Effect.TheVariants.{Idle}
@@ -14,7 +14,7 @@ use Rattle.speculation.specs.declared.Event.{Event}
 use Rattle.speculation.specs.declared.Event.TheVariants.{Serial as SerialEvent}
 use Rattle.speculation.specs.declared.Mode.{Mode}
 use Rattle.speculation.specs.declared.Mode.TheVariants.{Serial, Speculating}
-use Rattle.speculation.specs.World.{World, step}
+use Rattle.speculation.specs.World.{World}
 use Rattle.speculation.specs.Engine.{Model, run, effects, happens, fresh, counted, going_on, serial_step, told_end, counted_by}
 use Rattle.speculation.proofs.Keeps.{fresh_holds, run_keeps}
 use Rattle.squash_laws.specs.Tracks.{IsSafe}
@@ -26,8 +26,8 @@ use Rattle.fitting_laws.proofs.Sets.{is_setting}
 use Rattle.nosquash.proofs.Clean.{clean}
 use Rattle.schedules.specs.Schedule.{after, alone}
 use Rattle.event_list.specs.Reading.{written_out}
-use Rattle.mssp_tool.specs.declared.answer.Answer.{Answer}
-use Rattle.mssp_tool.specs.declared.answer.Answer.TheVariants.{Usage, Absent, StoreFault, SinkFault, Memory, TooLong, Refused, Done, Ran, Budget, Broken}
+use Rattle.answers.specs.declared.answer.Answer.{Answer}
+use Rattle.answers.specs.declared.answer.Answer.TheVariants.{Usage, Absent, StoreFault, SinkFault, Memory, TooLong, Refused, Done, Ran, Budget, Broken}
 use Rattle.mssp_tool.specs.Told.{Reads, Puts, Written}
 use Rattle.mssp_tool.specs.Speculated.{schedule_of, events_of}
 use Rattle.mssp_tool.specs.declared.speculating.Schedule.TheVariants.{Rounds}
@@ -44,9 +44,10 @@ pub some_run : (o : Option ReadCommand) (r : RunCommand) → option_map shown o 
 some_run None r is = absurd (cc)
 some_run (Some (ReadShow image)) r is = absurd (cc)
 some_run (Some (ReadReplay x)) r is = absurd (cc)
-some_run (Some (ReadProfile x)) r is = absurd (cc)
+some_run (Some (ReadProfile x calls)) r is = absurd (cc)
 some_run (Some (ReadDistill x)) r is = absurd (cc)
 some_run (Some (ReadCheck x)) r is = absurd (cc)
+some_run (Some (ReadCertify x y)) r is = absurd (cc)
 some_run (Some (ReadTrial x)) r is = absurd (cc)
 some_run (Some (ReadRun x)) r is = let same : shown_run x ≡ r = cc in subst (λ (y : RunCommand). 0 < y.slaves) same x.some
 
@@ -54,9 +55,10 @@ pub some_replay : (o : Option ReadCommand) (r : ReplayCommand) → option_map sh
 some_replay None r is = absurd (cc)
 some_replay (Some (ReadShow image)) r is = absurd (cc)
 some_replay (Some (ReadRun x)) r is = absurd (cc)
-some_replay (Some (ReadProfile x)) r is = absurd (cc)
+some_replay (Some (ReadProfile x calls)) r is = absurd (cc)
 some_replay (Some (ReadDistill x)) r is = absurd (cc)
 some_replay (Some (ReadCheck x)) r is = absurd (cc)
+some_replay (Some (ReadCertify x y)) r is = absurd (cc)
 some_replay (Some (ReadTrial x)) r is = absurd (cc)
 some_replay (Some (ReadReplay x)) r is = let same : shown_replay x ≡ r = cc in subst (λ (y : ReplayCommand). 0 < y.slaves) same x.some
 
@@ -117,7 +119,7 @@ step_clean w m h = go (is_over m.committed)
     told (Some end) = h
 
     by : (k : Mode) → IsClean (counted_by SerialEvent (serial_step w m k).0 m.counts)
-    by (Serial debt) = told (step w m.committed).env.over
+    by (Serial debt) = told (w.step m.committed).env.over
     by Speculating = h
 
     go : (b : Bool) → IsClean (counted SerialEvent m.counts (cond b (Idle, m) (going_on w m SerialEvent))).1.counts

@@ -13,9 +13,9 @@ use Rattle.assume_list.specs.declared.verdict.Verdict.TheVariants as verdict
 use Rattle.assume_list.specs.Passes.{is_span}
 use Rattle.assume_list.specs.Verdicts.{IsVerdict}
 use Rattle.report.specs.Verdict.{verdict_line}
-use Rattle.mssp_tool.specs.declared.answer.Answer.{Answer}
-use Rattle.mssp_tool.specs.declared.answer.Answer.TheVariants.{SinkFault, Memory, Done, Broken}
-use Rattle.mssp_tool.specs.Told.{Reads, Puts, PutFails, Got, GotPart, GotNothing}
+use Rattle.answers.specs.declared.answer.Answer.{Answer}
+use Rattle.answers.specs.declared.answer.Answer.TheVariants.{Memory, Done, Broken}
+use Rattle.mssp_tool.specs.Told.{Reads, Puts, GotNothing, Spoken}
 use Rattle.mssp_tool.specs.Files.{IsProgramOf, NoProgram, of_program, HasImage, NoImage, of_image, IsInput, NoInput, of_input}
 use Rattle.mssp_tool.specs.Run.{start_from}
 
@@ -44,9 +44,7 @@ verdict_answer (verdict.Broken position which) = Broken
 
 -- the line of a verdict was put, and the answer tells it; or a part of the line, where the sink failed or there was no memory
 abbrev pub Judged : Distilled → Verdict → Puts → Answer → Type 0
-Judged image v out SinkFault = PutFails out × GotPart out (verdict_line image v)
-Judged image v out Memory = GotPart out (verdict_line image v)
-Judged image v out a = Got out (verdict_line image v) × (a ≡ verdict_answer v)
+Judged image v out a = Spoken out (verdict_line image v) (verdict_answer v) a
 
 -- it came to no verdict, and nothing was put; or its files are these, and this is the verdict on their run
 abbrev pub CheckCause : Reads → WalkCommand → Puts → Answer → Type 0

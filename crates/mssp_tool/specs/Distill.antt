@@ -11,9 +11,9 @@ use Rattle.distill_rules.specs.Analysed.{analysed}
 use Rattle.layout_rules.specs.declared.Options.{Options}
 use Rattle.layout_rules.specs.Images.{distilled}
 use Rattle.cuts.specs.Words.{word_in}
-use Rattle.mssp_tool.specs.declared.answer.Refusal.TheVariants.{Empty}
-use Rattle.mssp_tool.specs.declared.answer.Answer.{Answer}
-use Rattle.mssp_tool.specs.declared.answer.Answer.TheVariants.{Memory, Refused, Done}
+use Rattle.answers.specs.declared.answer.Refusal.TheVariants.{Empty}
+use Rattle.answers.specs.declared.answer.Answer.{Answer}
+use Rattle.answers.specs.declared.answer.Answer.TheVariants.{Memory, Refused, Done}
 use Rattle.mssp_tool.specs.Told.{Reads}
 use Rattle.mssp_tool.specs.Files.{IsProgramOf, NoProgram, of_program, HasProfile, NoProfile, of_profile, Saved}
 
@@ -30,7 +30,7 @@ options_of d = record { rare = d.rare; hot = d.hot; goal = d.goal; limit = d.lim
 
 -- the image of a program and a profile
 abbrev pub image_of : DistillCommand → Executable → Profiled → Distilled
-image_of d program f = distilled (word_in program) program.entry f (options_of d)
+image_of d program f = distilled (word_in program) program.entry f [] (options_of d)
 
 -- the profile has nothing that an image could be made of, and no file has changed; or it has, and the image's bytes were written, or not
 abbrev pub Distills : DistillCommand → Executable → Profiled → Reads → Option Files → Answer → Type 0

@@ -4,8 +4,8 @@ use Rattle.outside.specs.Answers.{Gains, Rose}
 use Rattle.cells.specs.declared.End.{End}
 use Rattle.cells.specs.Run.{State, iterate}
 use Rattle.rv_run.specs.Calls.{step}
-use Rattle.mssp_tool.specs.declared.answer.Answer.{Answer}
-use Rattle.mssp_tool.specs.declared.answer.Answer.TheVariants.{SinkFault, Memory, Ran, Budget}
+use Rattle.answers.specs.declared.answer.Answer.{Answer}
+use Rattle.answers.specs.declared.answer.Answer.TheVariants.{SinkFault, Memory, Ran, Budget}
 use Rattle.mssp_tool.specs.Told.{Puts, PutFails, Got, GotPart}
 
 -- the state of a run after a number of steps, where a state that has ended stays

@@ -16,12 +16,12 @@ use Rattle.event_list.specs.Reading.{list_in}
 use Rattle.profile_data.specs.declared.error.ProfileErr.{ProfileErr}
 use Rattle.profile_data.specs.Profile.{Profiled, IsProfile}
 use Rattle.profile_data.specs.Reading.{profile_from}
-use Rattle.mssp_tool.specs.declared.answer.Source.{Source}
-use Rattle.mssp_tool.specs.declared.answer.Source.TheVariants as source
-use Rattle.mssp_tool.specs.declared.answer.Refusal.{Refusal}
-use Rattle.mssp_tool.specs.declared.answer.Refusal.TheVariants as refused
-use Rattle.mssp_tool.specs.declared.answer.Answer.{Answer}
-use Rattle.mssp_tool.specs.declared.answer.Answer.TheVariants.{Absent, StoreFault, Memory, TooLong, Refused, Done}
+use Rattle.answers.specs.declared.answer.Source.{Source}
+use Rattle.answers.specs.declared.answer.Source.TheVariants as source
+use Rattle.answers.specs.declared.answer.Refusal.{Refusal}
+use Rattle.answers.specs.declared.answer.Refusal.TheVariants as refused
+use Rattle.answers.specs.declared.answer.Answer.{Answer}
+use Rattle.answers.specs.declared.answer.Answer.TheVariants.{Absent, StoreFault, Memory, TooLong, Refused, Done}
 use Rattle.mssp_tool.specs.Told.{Reads, Fails, Written}
 
 abbrev pub program_limit : ℕ

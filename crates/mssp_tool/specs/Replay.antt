@@ -11,8 +11,8 @@ use Rattle.dist_image.specs.Image.{Distilled, IsImage}
 use Rattle.event_list.specs.Reading.{written_out}
 use Rattle.report.specs.Events.{effect_line, summary_text}
 use Rattle.command_line.specs.Command.{ReplayCommand}
-use Rattle.mssp_tool.specs.declared.answer.Answer.{Answer}
-use Rattle.mssp_tool.specs.declared.answer.Answer.TheVariants.{Memory, Done}
+use Rattle.answers.specs.declared.answer.Answer.{Answer}
+use Rattle.answers.specs.declared.answer.Answer.TheVariants.{Memory, Done}
 use Rattle.mssp_tool.specs.Told.{Reads, Puts, GotNothing, Delivered}
 use Rattle.mssp_tool.specs.Files.{IsProgramOf, NoProgram, of_program, HasImage, NoImage, of_image, HasEvents, NoEvents, of_events, IsInput, NoInput, of_input}
 use Rattle.mssp_tool.specs.Run.{start_from, world_from}

@@ -11,8 +11,8 @@ use Rattle.image_world.specs.World.{world}
 use Rattle.elf_reader.specs.Accepted.{program_of}
 use Rattle.elf_reader.specs.Executable.{Executable}
 use Rattle.seq_machine.specs.Parts.{start_of}
-use Rattle.mssp_tool.specs.declared.answer.Answer.{Answer}
-use Rattle.mssp_tool.specs.declared.answer.Answer.TheVariants.{Memory, Ran, Budget}
+use Rattle.answers.specs.declared.answer.Answer.{Answer}
+use Rattle.answers.specs.declared.answer.Answer.TheVariants.{Memory, Ran, Budget}
 use Rattle.mssp_tool.specs.Told.{Reads, Puts, Got, GotNothing}
 use Rattle.mssp_tool.specs.Files.{IsProgramOf, NoProgram, of_program, IsNamedImage, NoNamedImage, of_named_image, IsInput, NoInput, of_input}
 use Rattle.mssp_tool.specs.Driven.{Driven, state_after, stands}

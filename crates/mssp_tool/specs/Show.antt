@@ -3,8 +3,8 @@ use Rattle.std.specs.Prelude.{ℕ, ◌⊎◌, List}
 use Rattle.outside.specs.Files.{Files}
 use Rattle.dist_image.specs.Image.{Distilled}
 use Rattle.report.specs.Show.{image_text}
-use Rattle.mssp_tool.specs.declared.answer.Answer.{Answer}
-use Rattle.mssp_tool.specs.declared.answer.Answer.TheVariants.{Done}
+use Rattle.answers.specs.declared.answer.Answer.{Answer}
+use Rattle.answers.specs.declared.answer.Answer.TheVariants.{Done}
 use Rattle.mssp_tool.specs.Told.{Reads, Puts, GotNothing, Delivered}
 use Rattle.mssp_tool.specs.Files.{HasImage, NoImage, of_image}
 

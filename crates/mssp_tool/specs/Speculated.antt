@@ -7,9 +7,9 @@ use Rattle.speculation.specs.Engine.{Model}
 use Rattle.schedules.specs.Schedule.{in_rounds, alone, after, IsFirstStop, enough}
 use Rattle.schedules.specs.Laws.{StopsAt}
 use Rattle.report.specs.Events.{summary_text}
-use Rattle.mssp_tool.specs.declared.answer.Source.TheVariants as source
-use Rattle.mssp_tool.specs.declared.answer.Answer.{Answer}
-use Rattle.mssp_tool.specs.declared.answer.Answer.TheVariants.{StoreFault, Ran, Budget}
+use Rattle.answers.specs.declared.answer.Source.TheVariants as source
+use Rattle.answers.specs.declared.answer.Answer.{Answer}
+use Rattle.answers.specs.declared.answer.Answer.TheVariants.{StoreFault, Ran, Budget}
 use Rattle.mssp_tool.specs.declared.speculating.Schedule.{Schedule}
 use Rattle.mssp_tool.specs.declared.speculating.Schedule.TheVariants.{Rounds, Alone}
 use Rattle.mssp_tool.specs.Told.{Reads, Puts, Got, Written}

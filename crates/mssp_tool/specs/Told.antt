@@ -3,8 +3,8 @@ use Rattle.std.specs.Prelude.{◌≡◌, ℕ, List, take, Option, Some, None, op
 use Rattle.std.specs.FinMap as finite
 use Rattle.outside.specs.Answers.{Gains, Rose, OthersStay}
 use Rattle.outside.specs.Files.{Files}
-use Rattle.mssp_tool.specs.declared.answer.Answer.{Answer}
-use Rattle.mssp_tool.specs.declared.answer.Answer.TheVariants.{SinkFault, Memory, Done}
+use Rattle.answers.specs.declared.answer.Answer.{Answer}
+use Rattle.answers.specs.declared.answer.Answer.TheVariants.{SinkFault, Memory, Done}
 
 -- a store that is read in a call
 pub record Reads : Type 0 where
@@ -41,6 +41,12 @@ Delivered out text Done = Got out text
 Delivered out text SinkFault = PutFails out × GotPart out text
 Delivered out text Memory = GotPart out text
 Delivered out text _ = ⊥
+
+-- a line was put whole, and this is the answer; or a part of it, where the sink failed or there was no memory
+abbrev pub Spoken : Puts → (line : List ℕ) → (end : Answer) → Answer → Type 0
+Spoken out line end SinkFault = PutFails out × GotPart out line
+Spoken out line end Memory = GotPart out line
+Spoken out line end a = Got out line × (a ≡ end)
 
 -- of a store that told its files and what it tells now: this file was written
 abbrev pub Written : Option Files → Option Files → List ℕ → List ℕ → Type 0

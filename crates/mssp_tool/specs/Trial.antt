@@ -1,14 +1,14 @@
 -- What `trial` comes to, and why.
-use Rattle.std.specs.Prelude.{◌≡◌, ℕ, ◌⊎◌, ◌==◌, if◌then◌else◌, List, [], length}
+use Rattle.std.specs.Prelude.{◌≡◌, ℕ, ◌⊎◌, false, ◌==◌, if◌then◌else◌, List, [], length}
 use Rattle.command_line.specs.Command.{TrialCommand}
 use Rattle.profile_data.specs.Profile.{Tally, Profiled}
-use Rattle.profile_laws.specs.Profiles.{steps, IsWide}
+use Rattle.profile_laws.specs.Profiles.{with_mark, steps, IsWide}
 use Rattle.profile_laws.specs.Tally.{kept}
 use Rattle.distill_rules.specs.Analysed.{analysed}
 use Rattle.trial_report.specs.Trial.{budget, start_made, IsProfileMade, IsTrial}
-use Rattle.mssp_tool.specs.declared.answer.Refusal.TheVariants.{Wide, Empty}
-use Rattle.mssp_tool.specs.declared.answer.Answer.{Answer}
-use Rattle.mssp_tool.specs.declared.answer.Answer.TheVariants.{Memory, Refused, Done}
+use Rattle.answers.specs.declared.answer.Refusal.TheVariants.{Wide, Empty}
+use Rattle.answers.specs.declared.answer.Answer.{Answer}
+use Rattle.answers.specs.declared.answer.Answer.TheVariants.{Memory, Refused, Done}
 use Rattle.mssp_tool.specs.Told.{Puts, GotNothing, Delivered}
 use Rattle.mssp_tool.specs.Profile.{is_wide}
 
@@ -32,4 +32,4 @@ abbrev pub answer_by : List Tally → Answer
 answer_by rows = if is_wide rows then Refused Wide else if length (analysed rows) == 0 then Refused Empty else Done
 
 abbrev pub trial_answer : TrialCommand → Answer
-trial_answer t = answer_by (kept (start_made t.seed t.size) (steps (start_made t.seed t.size) budget)).rows
+trial_answer t = answer_by (kept (with_mark false) (start_made t.seed t.size) (steps (start_made t.seed t.size) budget)).rows

@@ -13,8 +13,8 @@ use Rattle.event_list.specs.Reading.{written_out}
 use Rattle.fitting.specs.Fits.{Fits}
 use Rattle.fitting.specs.Fails.{state_at, program, Meets, Reaches}
 use Rattle.report.specs.Events.{summary_text}
-use Rattle.mssp_tool.specs.declared.answer.Answer.{Answer}
-use Rattle.mssp_tool.specs.declared.answer.Answer.TheVariants.{Done}
+use Rattle.answers.specs.declared.answer.Answer.{Answer}
+use Rattle.answers.specs.declared.answer.Answer.TheVariants.{Done}
 use Rattle.mssp_tool.specs.Told.{Puts, GotNothing, Delivered, Written}
 use Rattle.mssp_tool.specs.Run.{AreRunFiles, start_from, world_from}
 use Rattle.mssp_tool.specs.Replay.{AreFiles, replay_bytes}

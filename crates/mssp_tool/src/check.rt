@@ -7,8 +7,8 @@ ghost use Rattle.report.specs.Verdict.{IsOfList};
 ghost use Rattle.mssp_tool.specs.Told.{Reads, Puts};
 ghost use Rattle.mssp_tool.specs.Check.{Unchecked, HasCheckFiles, verdict_answer, Judged, CheckCause};
 
-use crate::answer::Answer;
 use crate::reading::{image_in, input_in, program_in};
+use answers::Answer;
 use assume_list::{Verdict, check_run};
 use command_line::Walk;
 use dist_image::Image;

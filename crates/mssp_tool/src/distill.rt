@@ -8,9 +8,9 @@ ghost use Rattle.mssp_tool.specs.Told.{Reads, OnlyChanges};
 ghost use Rattle.mssp_tool.specs.Files.{HasProgram, HasProfile, Saved};
 ghost use Rattle.mssp_tool.specs.Distill.{Undistilled, options_of, DistillCause};
 
-use crate::answer::{Answer, Refusal};
 use crate::output::save;
 use crate::reading::{profile_in, program_in};
+use answers::{Answer, Refusal};
 use command_line::Distill;
 use dist_image::{Image, write_image};
 use distiller::{DistillErr, Options};

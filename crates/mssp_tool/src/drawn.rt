@@ -3,7 +3,7 @@ ghost use Rattle.command_line.specs.Command.{shown_trial};
 ghost use Rattle.mssp_tool.specs.Told.{Puts, Delivered};
 ghost use Rattle.mssp_tool.specs.Trial.{TrialCause};
 
-use crate::answer::{Answer, Refusal};
+use answers::{Answer, Refusal};
 use command_line::Trial;
 use outside::{Sink, SinkErr};
 use std::alloc::Global;

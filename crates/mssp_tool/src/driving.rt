@@ -5,7 +5,7 @@ ghost use Rattle.mssp_tool.specs.Told.{Puts};
 ghost use Rattle.mssp_tool.specs.Driven.{Driven, Stops, stands};
 ghost use Rattle.seq_machine.specs.States.{state_of};
 
-use crate::answer::Answer;
+use answers::Answer;
 use memory::Memory;
 use outside::{Sink, SinkErr};
 use seq_machine::Machine;

@@ -1,7 +1,7 @@
 //! Everything that the program `mssp` does, over any store and sinks.
 #![tactic(auto)]
 
-mod answer;
+mod certifying;
 mod check;
 mod distill;
 mod drawn;

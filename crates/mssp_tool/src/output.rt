@@ -2,7 +2,7 @@
 ghost use Rattle.mssp_tool.specs.Told.{Reads};
 ghost use Rattle.mssp_tool.specs.Files.{Saved};
 
-use crate::answer::{Answer, Source};
+use answers::{Answer, Source};
 use outside::{Store, StoreErr};
 use std::alloc::Global;
 

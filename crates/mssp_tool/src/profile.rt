@@ -7,9 +7,9 @@ ghost use Rattle.mssp_tool.specs.Told.{Reads, OnlyChanges};
 ghost use Rattle.mssp_tool.specs.Files.{Saved};
 ghost use Rattle.mssp_tool.specs.Profile.{Unprofiled, HasRun, ProfileCause};
 
-use crate::answer::{Answer, Refusal};
 use crate::output::save;
 use crate::reading::{input_in, program_in};
+use answers::{Answer, Refusal};
 use command_line::Walk;
 use elf_reader::Program;
 use outside::Store;
@@ -51,13 +51,15 @@ fn save_profile<S: Store>(alloc: Global, store: &mut S, name: &str, f: &Profile)
     }
 }
 
-/// Runs a program through its steps, and writes the profile of that run.
-pub fn profile<S: Store>(alloc: Global, store: &mut S, walk: &Walk<'_>) -> Answer
+/// Runs a program through its steps, and writes the profile of that run. `calls` tells whether short
+/// writes are counted in it.
+pub fn profile<S: Store>(alloc: Global, store: &mut S, walk: &Walk<'_>, calls: bool) -> Answer
     ensures files { OnlyChanges (S.told store.old) (S.told store.new) (Some (shown_walk walk.now).other) }
     ensures cause { ProfileCause
         (record { told = S.told store.old; before = S.faults store.old; now = S.faults store.new })
         (S.told store.new)
         (shown_walk walk.now)
+        calls
         result }
 {
     let subject = match subject_in(alloc, store, walk) {
@@ -65,7 +67,7 @@ pub fn profile<S: Store>(alloc: Global, store: &mut S, walk: &Walk<'_>) -> Answe
         Err(answer) => return answer,
     };
     let input = subject.input;
-    match profiler::profile(alloc, &subject.program, input, walk.budget) {
+    match profiler::profile(alloc, &subject.program, input, walk.budget, calls) {
         Ok(f) => save_profile(alloc, store, walk.other, &f),
         Err(ProfilingErr::Wide) => Answer::Refused(Refusal::Wide),
         Err(ProfilingErr::Memory) => Answer::Memory,

@@ -6,7 +6,7 @@ ghost use Rattle.event_list.specs.Reading.{AreEvents};
 ghost use Rattle.mssp_tool.specs.Told.{Reads};
 ghost use Rattle.mssp_tool.specs.Files.{IsReadFrom, NotRead, HasProgram, NoProgram, HasImage, NoImage, IsNamedImage, NoNamedImage, HasEvents, NoEvents, HasProfile, NoProfile, IsInput, NoInput};
 
-use crate::answer::{Answer, Refusal, Source};
+use answers::{Answer, Refusal, Source};
 use dist_image::{Image, ImageErr, empty_image, read_image};
 use elf_reader::{ElfErr, Program, read_elf};
 use event_list::{Event, EventErr, read_events};

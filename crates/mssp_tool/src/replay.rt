@@ -7,9 +7,9 @@ ghost use Rattle.engine.specs.Whole.{model_of, world_of};
 ghost use Rattle.mssp_tool.specs.Told.{Reads, Puts};
 ghost use Rattle.mssp_tool.specs.Replay.{Wanting, IsReady, ReplayCause};
 
-use crate::answer::Answer;
 use crate::events::put_replay;
 use crate::reading::{events_in, image_in, input_in, program_in};
+use answers::Answer;
 use command_line::Replay;
 use engine::Engine;
 use event_list::Event;

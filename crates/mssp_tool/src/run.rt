@@ -7,10 +7,10 @@ ghost use Rattle.mssp_tool.specs.Told.{Reads, Puts, OnlyChanges};
 ghost use Rattle.mssp_tool.specs.Run.{Begins, Unready, IsReady, Reported, RunCause};
 ghost use Rattle.seq_machine.specs.States.{state_of};
 
-use crate::answer::Answer;
 use crate::driving::drive;
 use crate::reading::{input_in, named_image_in, program_in};
 use crate::speculating::speculate;
+use answers::Answer;
 use command_line::Run;
 use dist_image::Image;
 use elf_reader::Program;

@@ -3,8 +3,8 @@ ghost use Rattle.std.specs.Prelude.{◌≡◌};
 ghost use Rattle.mssp_tool.specs.Told.{Reads, Puts};
 ghost use Rattle.mssp_tool.specs.Show.{ShowCause};
 
-use crate::answer::Answer;
 use crate::reading::image_in;
+use answers::Answer;
 use outside::{Sink, SinkErr, Store};
 use report::put_image;
 use std::alloc::Global;

@@ -14,8 +14,8 @@ ghost use Rattle.mssp_tool.specs.Told.{Reads, Puts, Written};
 ghost use Rattle.mssp_tool.specs.Driven.{Stops, CutOff};
 ghost use Rattle.mssp_tool.specs.Speculated.{schedule_of, events_of, IsStop, Unwritten, Speculated};
 
-use crate::answer::{Answer, Source};
 use crate::driving::{put_from, stand};
+use answers::{Answer, Source};
 use command_line::Run;
 use event_list::Event;
 use memory::Memory;

@@ -1,11 +1,11 @@
 //! The top call: from the words of the command line to the status.
-ghost use Rattle.std.specs.Prelude.{◌≡◌, map, option_map, string_bytes};
+ghost use Rattle.std.specs.Prelude.{◌≡◌, Some, map, option_map, string_bytes};
 ghost use Rattle.command_line.specs.Command.{shown, command_of};
-ghost use Rattle.mssp_tool.specs.Answer.{line_of, status_of, name_of};
+ghost use Rattle.answers.specs.Answer.{line_of, status_of, name_of};
 ghost use Rattle.mssp_tool.specs.Told.{Reads, Puts, OnlyChanges};
 ghost use Rattle.mssp_tool.specs.Top.{Cause, Tells, Answered, output_of};
 
-use crate::answer::{Answer, line, status};
+use crate::certifying::certify;
 use crate::check::check;
 use crate::distill::distill;
 use crate::drawn::trial;
@@ -13,11 +13,40 @@ use crate::profile::profile;
 use crate::replay::replay;
 use crate::run::run;
 use crate::show::show;
+use answers::{Answer, line, status};
 use command_line::{Command, read_command};
 use outside::{Sink, SinkErr, Store};
 use std::alloc::Global;
 
+// Performs a command.
 fn perform<S: Store, O: Sink>(
+    alloc: Global,
+    store: &mut S,
+    out: &mut O,
+    command: Command<'_>,
+) -> Answer
+    ensures files { OnlyChanges (S.told store.old) (S.told store.new) (output_of (Some (shown command.entry))) }
+    ensures cause { Cause
+        (record { told = S.told store.old; before = S.faults store.old; now = S.faults store.new })
+        (S.told store.new)
+        (Some (shown command.entry))
+        (record { told = O.told out.old; left = O.told out.new; before = O.faults out.old; now = O.faults out.new })
+        result }
+{
+    match command {
+        Command::Run(asked) => run(alloc, store, out, &asked),
+        Command::Show { image } => show(alloc, store, out, image),
+        Command::Replay(asked) => replay(alloc, store, out, &asked),
+        Command::Profile { walk, calls } => profile(alloc, store, &walk, calls),
+        Command::Distill(asked) => distill(alloc, store, &asked),
+        Command::Check(asked) => check(alloc, store, out, &asked),
+        Command::Certify { program, image } => certify(alloc, store, out, program, image),
+        Command::Trial(asked) => trial(alloc, out, &asked),
+    }
+}
+
+// Performs what the words ask for, where they are a command.
+fn perform_words<S: Store, O: Sink>(
     alloc: Global,
     store: &mut S,
     out: &mut O,
@@ -32,13 +61,7 @@ fn perform<S: Store, O: Sink>(
         result }
 {
     match command {
-        Some(Command::Run(asked)) => run(alloc, store, out, &asked),
-        Some(Command::Show { image }) => show(alloc, store, out, image),
-        Some(Command::Replay(asked)) => replay(alloc, store, out, &asked),
-        Some(Command::Profile(asked)) => profile(alloc, store, &asked),
-        Some(Command::Distill(asked)) => distill(alloc, store, &asked),
-        Some(Command::Check(asked)) => check(alloc, store, out, &asked),
-        Some(Command::Trial(asked)) => trial(alloc, out, &asked),
+        Some(command) => perform(alloc, store, out, command),
         None => Answer::Usage,
     }
 }
@@ -82,6 +105,6 @@ pub fn mssp<S: Store, O: Sink, E: Sink>(
     ensures files { OnlyChanges (S.told store.old) (S.told store.new) (output_of (command_of (map string_bytes words.now))) }
 {
     let command = read_command(words);
-    let answer = perform(alloc, store, out, command);
+    let answer = perform_words(alloc, store, out, command);
     tell(alloc, err, answer, command)
 }

@@ -3,8 +3,8 @@ use Rattle.std.proofs.Common.{◌≡◌, ◌≤◌, inl, inr, Err, subst, ◌∙
 use Rattle.command_line.specs.Command.{shown_walk}
 use Rattle.dist_image.specs.Reading.{image_from}
 use Rattle.dist_image.specs.declared.error.ImageErr.{ImageErr}
-use Rattle.mssp_tool.specs.declared.answer.Source.TheVariants as source
-use Rattle.mssp_tool.specs.declared.answer.Refusal.TheVariants as refused
+use Rattle.answers.specs.declared.answer.Source.TheVariants as source
+use Rattle.answers.specs.declared.answer.Refusal.TheVariants as refused
 use Rattle.mssp_tool.specs.Files.{HasImage, image_limit}
 use Rattle.mssp_tool.proofs.Ready.{not_accepted_within, no_input_within, is_input}
 use Rattle.mssp_tool.proofs.check.subject_in.Goals as goal

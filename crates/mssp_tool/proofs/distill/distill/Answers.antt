@@ -1,5 +1,5 @@
 -- The files that stay, and what the image of the files that were read comes to.
-use Rattle.std.proofs.Common.{◌≡◌, Err, ap, ◌∙◌, subst}
+use Rattle.std.proofs.Common.{◌≡◌, [], Err, ap, ◌∙◌, subst}
 use Rattle.command_line.specs.Command.{shown_distill}
 use Rattle.dist_image.specs.Image.{Distilled}
 use Rattle.dist_image.specs.Bytes.{bytes_of}
@@ -33,7 +33,7 @@ returns-in-Ok-distill-clause-cause g c =
     let first = c.subject_in.ensures in
     let has = c.in-Ok.ensures.answer in
     let asked = c.options_of-options.ensures in
-    let is : c.in-Ok-distill.image ≡ image_of d program f = c.in-Ok-distill.ensures.exact ∙ ap (λ (o : Options). distilled (word_in program) program.entry f o) asked.options in
+    let is : c.in-Ok-distill.image ≡ image_of d program f = c.in-Ok-distill.ensures.exact ∙ ap (λ (o : Options). distilled (word_in program) program.entry f [] o) asked.options in
     distilled_cause d (g.S.Store.told c.args.store.now) program f has.0 has.1
     (g.S.Store.told c.subject_in.new.store) (g.S.Store.told c.save_image.new.store) (g.S.Store.faults c.args.store.now) (g.S.Store.faults c.subject_in.new.store) (g.S.Store.faults c.save_image.new.store)
     c.save_image.result first.files first.faults c.in-Ok-distill.ensures.some

@@ -3,8 +3,8 @@ use Rattle.std.proofs.Common.{◌≡◌, inl, inr, subst, Err}
 use Rattle.command_line.specs.Command.{shown_distill}
 use Rattle.profile_data.specs.declared.error.ProfileErr.{ProfileErr}
 use Rattle.profile_data.specs.Reading.{profile_from}
-use Rattle.mssp_tool.specs.declared.answer.Source.TheVariants as source
-use Rattle.mssp_tool.specs.declared.answer.Refusal.TheVariants as refused
+use Rattle.answers.specs.declared.answer.Source.TheVariants as source
+use Rattle.answers.specs.declared.answer.Refusal.TheVariants as refused
 use Rattle.mssp_tool.specs.Files.{HasProfile, profile_limit}
 use Rattle.mssp_tool.proofs.Ready.{not_accepted_within}
 use Rattle.mssp_tool.proofs.distill.subject_in.Goals as goal

@@ -1,6 +1,6 @@
 -- The trial of the number.
-use Rattle.std.proofs.Common.{ℕ, List, inl, inr, Err, refl, ap, subst}
-use Rattle.profile_laws.specs.Profiles.{steps}
+use Rattle.std.proofs.Common.{ℕ, false, List, inl, inr, Err, refl, ap, subst}
+use Rattle.profile_laws.specs.Profiles.{with_mark, steps}
 use Rattle.profile_laws.specs.Tally.{profile_of}
 use Rattle.profile_laws.proofs.Law.{tally_is_profile}
 use Rattle.trial_report.specs.Trial.{budget, start_made}
@@ -21,8 +21,8 @@ returns-in-Ok g c =
 pub returns-in-Err-Wide : goal.returns-in-Err-Wide
 returns-in-Err-Wide g c =
     let start = start_made c.args.trial.now.seed c.args.trial.now.size in
-    let is = tally_is_profile start (steps start budget) in
-    inr (inl (profile_of start (steps start budget), is, c.in-Err-Wide.ensures.wide (ap Err c.in-Err-Wide.field-0-is) (profile_of start (steps start budget)) is, refl, refl))
+    let is = tally_is_profile (with_mark false) start (steps start budget) in
+    inr (inl (profile_of (with_mark false) start (steps start budget), is, c.in-Err-Wide.ensures.wide (ap Err c.in-Err-Wide.field-0-is) (profile_of (with_mark false) start (steps start budget)) is, refl, refl))
 
 pub returns-in-Err-Empty : goal.returns-in-Err-Empty
 returns-in-Err-Empty g c =

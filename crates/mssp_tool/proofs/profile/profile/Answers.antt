@@ -23,7 +23,7 @@ returns-in-Ok-profile-clause-cause g c =
     let w = shown_walk c.args.walk.now in
     let first = c.subject_in.ensures in
     let f = c.in-Ok-profile.f in
-    written_cause w (g.S.Store.told c.args.store.now) c.in-Ok.subject.program c.in-Ok.subject.input.items c.in-Ok.ensures.answer.1
+    written_cause w c.args.calls (g.S.Store.told c.args.store.now) c.in-Ok.subject.program c.in-Ok.subject.input.items c.in-Ok.ensures.answer.1
     (g.S.Store.told c.subject_in.new.store) (g.S.Store.told c.save_profile.new.store) (g.S.Store.faults c.args.store.now) (g.S.Store.faults c.subject_in.new.store) (g.S.Store.faults c.save_profile.new.store)
     f c.save_profile.result first.files first.faults c.in-Ok-profile.ensures.profile c.in-Ok-profile.ensures.narrow c.save_profile.ensures
 
@@ -34,7 +34,7 @@ returns-in-Err-Wide-clause-files g c =
 pub returns-in-Err-Wide-clause-cause : goal.returns-in-Err-Wide-clause-cause
 returns-in-Err-Wide-clause-cause g c =
     let w = shown_walk c.args.walk.now in
-    wide_cause w (g.S.Store.told c.args.store.now) c.in-Ok.subject.program c.in-Ok.subject.input.items c.in-Ok.ensures.answer.1
+    wide_cause w c.args.calls (g.S.Store.told c.args.store.now) c.in-Ok.subject.program c.in-Ok.subject.input.items c.in-Ok.ensures.answer.1
     (g.S.Store.told c.subject_in.new.store) (g.S.Store.faults c.args.store.now) (g.S.Store.faults c.subject_in.new.store) c.subject_in.ensures.files
     (c.in-Err-Wide.ensures.wide c.in-Err-Wide.field-0-is)
 

@@ -9,8 +9,8 @@ use Rattle.speculation.specs.Engine.{fresh}
 use Rattle.engine.specs.Whole.{model_of, world_of}
 use Rattle.seq_machine.specs.Parts.{start_of}
 use Rattle.command_line.specs.Command.{shown_replay}
-use Rattle.mssp_tool.specs.declared.answer.Source.TheVariants as source
-use Rattle.mssp_tool.specs.declared.answer.Refusal.TheVariants as refused
+use Rattle.answers.specs.declared.answer.Source.TheVariants as source
+use Rattle.answers.specs.declared.answer.Refusal.TheVariants as refused
 use Rattle.mssp_tool.specs.Files.{HasImage, HasEvents, image_limit, events_limit}
 use Rattle.mssp_tool.specs.Replay.{AreFiles}
 use Rattle.mssp_tool.proofs.Ready.{not_accepted_within, no_input_within, is_input}
