@@ -26,14 +26,20 @@ const WITHIN: u32 = 4;
 
 const SPAN: u32 = 5;
 
-/// An image: anchors by pc, slot and count, the pcs of the notes, and the words of so many assumptions.
+/// With the value where the others have the side.
+const SAME: u32 = 6;
+
+/// An image: anchors by pc, slot and count, the pcs of the notes, the words of so many assumptions, and in version 2 the pcs
+/// where a task may print.
 #[derive(Clone, Copy)]
 struct Tables {
+    version: u32,
     limit: u32,
     anchors: &'static [u32],
     notes: &'static [u32],
     listed: u32,
     assumptions: &'static [u32],
+    writes: &'static [u32],
 }
 
 /// What is checked, and the verdict on the run below the budget.
@@ -92,7 +98,7 @@ fn image(alloc: Global, tables: Tables) -> Result<Image, Fail>
         &mut file,
         &[
             0x5053_534D,
-            1,
+            tables.version,
             tables.limit,
             1,
             anchors,
@@ -100,12 +106,16 @@ fn image(alloc: Global, tables: Tables) -> Result<Image, Fail>
             tables.listed,
         ],
     )?;
+    if tables.version == 2 {
+        push_words(&mut file, &[(tables.writes.len() % 1_000) as u32])?;
+    }
     push_words(&mut file, &[1, BASE, 0])?;
     push_words(&mut file, tables.anchors)?;
     for pc in tables.notes {
         push_words(&mut file, &[*pc, 0, 0, 0])?;
     }
     push_words(&mut file, tables.assumptions)?;
+    push_words(&mut file, tables.writes)?;
     Ok(read_image(alloc, &file)?)
 }
 
@@ -127,22 +137,38 @@ fn listing(
     assumptions: &'static [u32],
 ) -> Tables {
     Tables {
+        version: 1,
         limit,
         anchors,
         notes,
         listed,
         assumptions,
+        writes: &[],
+    }
+}
+
+/// The same tables in an image of version 2, whose tasks may print at these pcs.
+fn printing(tables: Tables, writes: &'static [u32]) -> Tables {
+    Tables {
+        version: 2,
+        writes,
+        ..tables
+    }
+}
+
+/// Without input, below this budget.
+fn at_budget(budget: u64, tables: Tables, verdict: Verdict) -> Case {
+    Case {
+        input: b"",
+        budget,
+        tables,
+        verdict,
     }
 }
 
 /// Without input, below a budget that is past the end.
 fn to_the_end(tables: Tables, verdict: Verdict) -> Case {
-    Case {
-        input: b"",
-        budget: 1_000,
-        tables,
-        verdict,
-    }
+    at_budget(1_000, tables, verdict)
 }
 
 fn broken(position: u64, which: u32) -> Verdict {
@@ -257,36 +283,11 @@ fn budgets_end_a_check(rt: HostRuntime) -> Result<(), Fail> {
     let no_list = listing(16, &[], &[], 0, &[]);
     let cut = listing(16, &[], &[], 1, &[CUT, 0x1_0008, 1, 0]);
     let cases = [
-        Case {
-            input: b"",
-            budget: 1,
-            tables: no_list,
-            verdict: Verdict::Met(1),
-        },
-        Case {
-            input: b"",
-            budget: 24,
-            tables: no_list,
-            verdict: Verdict::Met(24),
-        },
-        Case {
-            input: b"",
-            budget: 25,
-            tables: no_list,
-            verdict: Verdict::Met(24),
-        },
-        Case {
-            input: b"",
-            budget: 2,
-            tables: cut,
-            verdict: Verdict::Met(2),
-        },
-        Case {
-            input: b"",
-            budget: 3,
-            tables: cut,
-            verdict: broken(2, 0),
-        },
+        at_budget(1, no_list, Verdict::Met(1)),
+        at_budget(24, no_list, Verdict::Met(24)),
+        at_budget(25, no_list, Verdict::Met(24)),
+        at_budget(2, cut, Verdict::Met(2)),
+        at_budget(3, cut, broken(2, 0)),
     ];
     check_cases(&rt, rt.alloc(), &TEN_TURNS, &cases)
 }
@@ -380,18 +381,8 @@ fn tasks_come_to_their_end_in_time(rt: HostRuntime) -> Result<(), Fail> {
             Verdict::Met(24),
         ),
         // below a budget of one, positions past it are looked at
-        Case {
-            input: b"",
-            budget: 1,
-            tables: listing(23, at_first, &[], 1, span),
-            verdict: broken(0, 0),
-        },
-        Case {
-            input: b"",
-            budget: 1,
-            tables: listing(24, at_first, &[], 1, span),
-            verdict: Verdict::Met(1),
-        },
+        at_budget(1, listing(23, at_first, &[], 1, span), broken(0, 0)),
+        at_budget(1, listing(24, at_first, &[], 1, span), Verdict::Met(1)),
     ];
     check_cases(&rt, rt.alloc(), &TEN_TURNS, &cases)
 }
@@ -521,4 +512,177 @@ fn code_is_not_replaced(rt: HostRuntime) -> Result<(), Fail> {
         to_the_end(listing(16, &[], &[0x1_0010], 2, dead), broken(4, 0)),
     ];
     check_cases(&rt, rt.alloc(), words, &cases)
+}
+
+/// A loop of ten turns that loads the word at 0x00020000, which is 0, at its head.
+static LOADING: [u32; 9] = [
+    0x0002_03B7,
+    0x00A0_0293,
+    0x0003_A303,
+    0x0064_0433,
+    0xFFF2_8293,
+    0xFE02_9AE3,
+    0x0000_0513,
+    0x05D0_0893,
+    0x0000_0073,
+];
+
+#[test]
+fn a_load_has_one_value(rt: HostRuntime) -> Result<(), Fail> {
+    let cases = [
+        to_the_end(
+            printing(listing(16, &[], &[], 1, &[SAME, 0x1_0008, 0, 0]), &[]),
+            Verdict::Met(45),
+        ),
+        to_the_end(
+            printing(listing(16, &[], &[], 1, &[SAME, 0x1_0008, 1, 0]), &[]),
+            broken(2, 0),
+        ),
+        // a word that is no load has any value
+        to_the_end(
+            printing(listing(16, &[], &[], 1, &[SAME, 0x1_0004, 9, 0]), &[]),
+            Verdict::Met(45),
+        ),
+    ];
+    check_cases(&rt, rt.alloc(), &LOADING, &cases)?;
+    // a byte is extended by its sign, and a load to register 0 loads
+    let byte = &[0x0000_0297, 0x0002_8003];
+    let cases = [
+        to_the_end(
+            printing(
+                listing(16, &[], &[], 1, &[SAME, 0x1_0004, 0xFFFF_FF97, 0]),
+                &[],
+            ),
+            Verdict::Met(3),
+        ),
+        to_the_end(
+            printing(listing(16, &[], &[], 1, &[SAME, 0x1_0004, 0x97, 0]), &[]),
+            broken(1, 0),
+        ),
+    ];
+    check_cases(&rt, rt.alloc(), byte, &cases)
+}
+
+#[test]
+fn a_value_is_listed_behind_span(rt: HostRuntime) -> Result<(), Fail> {
+    let both = &[SPAN, 0, 0, 0, SAME, 0x1_0008, 1, 0];
+    let cases = [
+        // both fail at position 2, where the first of them is told
+        to_the_end(
+            printing(listing(16, &[0x1_0008, 0, 64], &[], 2, both), &[]),
+            broken(2, 0),
+        ),
+        // Span fails at position 0
+        to_the_end(
+            printing(listing(16, &[0x1_0000, 0, 1], &[], 2, both), &[]),
+            broken(0, 0),
+        ),
+        // at position 3
+        to_the_end(
+            printing(listing(16, &[0x1_000C, 0, 64], &[], 2, both), &[]),
+            broken(2, 1),
+        ),
+        // nowhere
+        to_the_end(
+            printing(listing(16, &[0x1_0008, 0, 1], &[], 2, both), &[]),
+            broken(2, 1),
+        ),
+        // and below a budget that is at the next position
+        at_budget(
+            3,
+            printing(listing(16, &[0x1_0008, 0, 64], &[], 2, both), &[]),
+            broken(2, 0),
+        ),
+    ];
+    check_cases(&rt, rt.alloc(), &LOADING, &cases)
+}
+
+/// Ten turns, each with a write of one byte.
+static TEN_WRITES: [u32; 11] = [
+    0x00A0_0293,
+    0x0010_0513,
+    0x0001_05B7,
+    0x0010_0613,
+    0x0400_0893,
+    0x0000_0073,
+    0xFFF2_8293,
+    0xFE02_94E3,
+    0x0000_0513,
+    0x05D0_0893,
+    0x0000_0073,
+];
+
+/// An image with an anchor at the first word alone, and with Span.
+fn spanned(limit: u32) -> Tables {
+    listing(limit, &[0x1_0000, 0, 1], &[], 1, &[SPAN, 0, 0, 0])
+}
+
+#[test]
+fn a_write_that_a_task_does_is_no_stop(rt: HostRuntime) -> Result<(), Fail> {
+    let within = listing(16, &[], &[0x1_0014], 1, &[WITHIN, 0, 0, 0]);
+    let cases = [
+        // each call stops tasks, unless it is listed: then the next stop is the end, at position 73
+        to_the_end(spanned(16), Verdict::Met(74)),
+        to_the_end(printing(spanned(16), &[]), Verdict::Met(74)),
+        to_the_end(printing(spanned(73), &[0x1_0014]), broken(0, 0)),
+        to_the_end(printing(spanned(74), &[0x1_0014]), Verdict::Met(74)),
+        // past the budget too
+        at_budget(1, printing(spanned(73), &[0x1_0014]), broken(0, 0)),
+        at_budget(1, printing(spanned(74), &[0x1_0014]), Verdict::Met(1)),
+        at_budget(1, printing(spanned(16), &[0x1_0018]), Verdict::Met(1)),
+        // the word behind the call has no note
+        to_the_end(within, Verdict::Met(74)),
+        to_the_end(printing(within, &[0x1_0014]), broken(5, 0)),
+    ];
+    check_cases(&rt, rt.alloc(), &TEN_WRITES, &cases)
+}
+
+#[test]
+fn what_a_task_shows_is_not_dead(rt: HostRuntime) -> Result<(), Fail> {
+    // a store of a byte, and a write from there on of 1, 256 or 257 bytes
+    let dead = listing(16, &[], &[], 1, &[DEAD, 0x1_0008, 0, 0]);
+    let shown = [
+        to_the_end(dead, Verdict::Met(10)),
+        to_the_end(printing(dead, &[0x1_0018]), broken(6, 0)),
+    ];
+    let byte = &[
+        0x0002_05B7,
+        0x0410_0293,
+        0x0055_8023,
+        0x0010_0513,
+        0x0010_0613,
+        0x0400_0893,
+        0x0000_0073,
+        0x0000_0513,
+        0x05D0_0893,
+        0x0000_0073,
+    ];
+    check_cases(&rt, rt.alloc(), byte, &shown)?;
+    let most = &[
+        0x0002_05B7,
+        0x0410_0293,
+        0x0055_8023,
+        0x0010_0513,
+        0x1000_0613,
+        0x0400_0893,
+        0x0000_0073,
+        0x0000_0513,
+        0x05D0_0893,
+        0x0000_0073,
+    ];
+    check_cases(&rt, rt.alloc(), most, &shown)?;
+    let longer = &[
+        0x0002_05B7,
+        0x0410_0293,
+        0x0055_8023,
+        0x0010_0513,
+        0x1010_0613,
+        0x0400_0893,
+        0x0000_0073,
+        0x0000_0513,
+        0x05D0_0893,
+        0x0000_0073,
+    ];
+    let met = [to_the_end(printing(dead, &[0x1_0018]), Verdict::Met(10))];
+    check_cases(&rt, rt.alloc(), longer, &met)
 }

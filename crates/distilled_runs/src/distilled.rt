@@ -20,7 +20,7 @@ static INPUT_IS_EMPTY: [u32; 118] = [
 ];
 
 /// A text of lines, each so many times.
-fn text_of(alloc: Global, lines: &[(&str, u8)]) -> Result<Vec<u8>, AllocError> {
+pub(crate) fn text_of(alloc: Global, lines: &[(&str, u8)]) -> Result<Vec<u8>, AllocError> {
     let mut text = Vec::new(alloc);
     for (line, count) in lines {
         for _ in 0..*count {

@@ -9,7 +9,7 @@ use std::test::Fail;
 
 /// The words of each command that reads files, and the names of the files in the order of its calls.
 /// The file `m` is an image, but for `distill` a profile.
-static CALLS: [(&[&str], &[&str]); 9] = [
+static CALLS: [(&[&str], &[&str]); 11] = [
     (&["run", "p"], &["p"]),
     (&["run", "p", "--input", "i"], &["p", "i"]),
     (&["run", "p", "--report", "r"], &["p", "r"]),
@@ -25,6 +25,8 @@ static CALLS: [(&[&str], &[&str]); 9] = [
     (&["distill", "p", "m", "r"], &["p", "m", "r"]),
     (&["check", "p", "m", "--input", "i"], &["p", "m", "i"]),
     (&["show", "m"], &["m"]),
+    (&["certify", "p", "m"], &["p", "m"]),
+    (&["profile", "p", "r", "--calls", "1"], &["p", "r"]),
 ];
 
 fn files(alloc: Global, words: &[&str]) -> Result<Files, AllocError> {

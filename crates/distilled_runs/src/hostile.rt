@@ -110,7 +110,13 @@ fn a_torn_output_holds_what_fits(rt: HostRuntime) -> Result<(), Fail> {
     assert_eq!(rt; left.err.as_slice(), b"mssp: sink fault\n".as_slice());
 
     // Each command that puts lines, torn at each byte: what is there is a beginning of the whole.
-    for words in [REPLAY, &["show", "m"], &["check", "p", "m"]] {
+    let commands: [&[&str]; 4] = [
+        REPLAY,
+        &["show", "m"],
+        &["check", "p", "m"],
+        &["certify", "p", "m"],
+    ];
+    for words in commands {
         let whole = perform_over(alloc, words, files(alloc, &TEN_TURNS, FORKED_EVENTS)?, SURE)?;
         for room in 0..whole.out.len() {
             let files = files(alloc, &TEN_TURNS, FORKED_EVENTS)?;
@@ -124,11 +130,12 @@ fn a_torn_output_holds_what_fits(rt: HostRuntime) -> Result<(), Fail> {
 }
 
 /// Each command that puts something, with the status that it has where nothing fails.
-static PUTTING: [(&[&str], u8); 4] = [
+static PUTTING: [(&[&str], u8); 5] = [
     (&["run", "p"], 0),
     (&["replay", "p", "m", "e"], 0),
     (&["show", "m"], 0),
     (&["check", "p", "m"], 0),
+    (&["certify", "p", "m"], 1),
 ];
 
 #[test]

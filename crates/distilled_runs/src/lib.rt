@@ -3,10 +3,14 @@
 #![tactic(auto)]
 
 #[cfg(test)]
+mod certified;
+#[cfg(test)]
 mod distilled;
 #[cfg(test)]
 mod faults;
 #[cfg(test)]
 mod hostile;
+#[cfg(test)]
+mod printing;
 #[cfg(test)]
 mod profiles;

@@ -8,4 +8,10 @@ mod liveness_cases;
 #[cfg(test)]
 mod memory_access_cases;
 #[cfg(test)]
+mod printing_cases;
+#[cfg(test)]
 mod profiler_cases;
+#[cfg(test)]
+mod programs;
+#[cfg(test)]
+mod value_cases;

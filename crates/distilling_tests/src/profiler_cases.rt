@@ -70,6 +70,7 @@ fn a_comparison_that_never_holds(rt: HostRuntime) -> Result<(), Fail> {
         &program,
         Vec::new(rt.alloc()),
         1_000_000_000_000,
+        false,
     )?;
     assert_eq!(rt;
         (profile.steps(), profile.ended(), profile.len()),
@@ -95,7 +96,7 @@ fn a_comparison_that_never_holds(rt: HostRuntime) -> Result<(), Fail> {
 #[test]
 fn the_budget_cuts_a_run(rt: HostRuntime) -> Result<(), Fail> {
     let program = program(rt.alloc(), &NEVER_TRUE, 40)?;
-    let profile = profile(rt.alloc(), &program, Vec::new(rt.alloc()), 3)?;
+    let profile = profile(rt.alloc(), &program, Vec::new(rt.alloc()), 3, false)?;
     assert_eq!(rt;
         (profile.steps(), profile.ended(), profile.len()),
         (3, false, 3)
@@ -116,7 +117,7 @@ fn a_program_rewrites_itself(rt: HostRuntime) -> Result<(), Fail> {
         0x0090_0513,
     ];
     let program = program(rt.alloc(), &words, 32)?;
-    let profile = profile(rt.alloc(), &program, Vec::new(rt.alloc()), 1000)?;
+    let profile = profile(rt.alloc(), &program, Vec::new(rt.alloc()), 1000, false)?;
     assert_eq!(rt;
         (profile.steps(), profile.ended(), profile.len()),
         (6, true, 6)
@@ -149,13 +150,13 @@ fn a_read_ends_a_stores_claim(rt: HostRuntime) -> Result<(), Fail> {
     ];
     let program = program(rt.alloc(), &words, 28)?;
     let input = Vec::from_slice(rt.alloc(), &[97])?;
-    let profile = profile(rt.alloc(), &program, input, 7)?;
+    let profile = profile(rt.alloc(), &program, input, 7, true)?;
     assert_eq!(rt;
         row_counts(&profile, 2),
         Some((0x1_0008, 1, 0, false, false))
     );
     // without input nothing is put, and the load reads what the store put
-    let profile = profiler::profile(rt.alloc(), &program, Vec::new(rt.alloc()), 7)?;
+    let profile = profiler::profile(rt.alloc(), &program, Vec::new(rt.alloc()), 7, true)?;
     assert_eq!(rt;
         row_counts(&profile, 2),
         Some((0x1_0008, 1, 0, true, false))
@@ -168,7 +169,7 @@ fn a_read_ends_a_stores_claim(rt: HostRuntime) -> Result<(), Fail> {
 fn a_load_to_register_0_loads(rt: HostRuntime) -> Result<(), Fail> {
     let words = [0x0000_0297, 0x0452_A023, 0x0402_C003];
     let program = program(rt.alloc(), &words, 12)?;
-    let profile = profile(rt.alloc(), &program, Vec::new(rt.alloc()), 100)?;
+    let profile = profile(rt.alloc(), &program, Vec::new(rt.alloc()), 100, false)?;
     assert_eq!(rt;
         (profile.steps(), profile.ended(), profile.len()),
         (4, true, 4)
@@ -177,5 +178,44 @@ fn a_load_to_register_0_loads(rt: HostRuntime) -> Result<(), Fail> {
         row_counts(&profile, 1),
         Some((0x1_0004, 1, 0, true, false))
     );
+    Ok(())
+}
+
+/// A program that stores a byte, and writes so many bytes from there on: the store's row, and that of the call.
+fn written(alloc: Global, count: u32, calls: bool) -> Result<[Option<Counts>; 2], Fail> {
+    let words = [
+        0x0002_05B7,
+        0x0410_0293,
+        0x0055_8023,
+        0x0010_0513,
+        0x0000_0613 + (count % 2_048) * 0x10_0000,
+        0x0400_0893,
+        0x0000_0073,
+        0x0000_0513,
+        0x05D0_0893,
+        0x0000_0073,
+    ];
+    let program = program(alloc, &words, 40)?;
+    let profile = profile(alloc, &program, Vec::new(alloc), 1_000, calls)?;
+    Ok([row_counts(&profile, 2), row_counts(&profile, 6)])
+}
+
+#[test]
+fn short_writes_read_with_the_mark(rt: HostRuntime) -> Result<(), Fail> {
+    let quiet = [
+        Some((0x1_0008, 1, 0, false, false)),
+        Some((0x1_0018, 1, 0, false, false)),
+    ];
+    let shown = [
+        Some((0x1_0008, 1, 0, true, false)),
+        Some((0x1_0018, 1, 1, false, false)),
+    ];
+    assert_eq!(rt; written(rt.alloc(), 1, false)?, quiet);
+    assert_eq!(rt; written(rt.alloc(), 1, true)?, shown);
+    assert_eq!(rt; written(rt.alloc(), 256, true)?, shown);
+    assert_eq!(rt; written(rt.alloc(), 257, true)?, quiet);
+    // a write of no bytes is short, and shows none
+    let none = [quiet[0], shown[1]];
+    assert_eq!(rt; written(rt.alloc(), 0, true)?, none);
     Ok(())
 }

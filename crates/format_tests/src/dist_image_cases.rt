@@ -1,4 +1,5 @@
-//! Images as bytes, both ways, and each refusal. The bytes of the first image are written out by hand.
+//! Images of version 1 as bytes, both ways, and each refusal. The bytes of the first image are written
+//! out by hand.
 
 use dist_image::{
     Anchor, Assumption, ImageErr, Note, Slot, Table, anchor_at, empty_image, read_image, slot_of,
@@ -17,7 +18,7 @@ static ONE_ANCHOR: [u8; 80] = [
 ];
 
 /// The bytes of numbers, the lowest byte of each first.
-fn bytes_of(alloc: Global, numbers: &[u32]) -> Result<Vec<u8>, AllocError> {
+pub(crate) fn bytes_of(alloc: Global, numbers: &[u32]) -> Result<Vec<u8>, AllocError> {
     let mut bytes = Vec::new(alloc);
     for number in numbers {
         bytes.extend_from_slice(&number.to_le_bytes())?;
@@ -25,7 +26,8 @@ fn bytes_of(alloc: Global, numbers: &[u32]) -> Result<Vec<u8>, AllocError> {
     Ok(bytes)
 }
 
-const MAGIC: u32 = 0x5053_534D;
+/// The text `MSSP`.
+pub(crate) const MAGIC: u32 = 0x5053_534D;
 
 /// The hand image of a loop of ten turns, as numbers.
 static TEN_TURNS: [u32; 55] = [
@@ -89,7 +91,8 @@ static TEN_TURNS: [u32; 55] = [
 #[test]
 fn reads_and_writes_one_anchor(rt: HostRuntime) -> Result<(), Fail> {
     let image = read_image(rt.alloc(), &ONE_ANCHOR)?;
-    assert_eq!(rt; image.limit, 16);
+    assert_eq!(rt; (image.version, image.limit), (1, 16));
+    assert_eq!(rt; image.writes.len(), 0);
     let exec = Slot::Exec {
         origin: 0x1_0008,
         word: 0x73,
@@ -151,8 +154,8 @@ fn reads_ten_turns(rt: HostRuntime) -> Result<(), Fail> {
 
 static ANSWERS_THE_FIRST_REFUSAL_CASES: [(&[u32], ImageErr); 34] = [
     (&[MAGIC, 1, 16, 0, 0, 0], ImageErr::Short),
-    (&[MAGIC + 1, 2, 15, 0, 0, 0, 0], ImageErr::Magic),
-    (&[MAGIC, 2, 15, 0, 0, 0, 0], ImageErr::Version),
+    (&[MAGIC + 1, 3, 15, 0, 0, 0, 0], ImageErr::Magic),
+    (&[MAGIC, 0, 15, 0, 0, 0, 0], ImageErr::Version),
     (&[MAGIC, 1, 15, 0, 0, 0, 0], ImageErr::Limit),
     (&[MAGIC, 1, 16_385, 0, 0, 0, 0], ImageErr::Limit),
     (

@@ -4,6 +4,8 @@
 #[cfg(test)]
 mod dist_image_cases;
 #[cfg(test)]
+mod dist_image_writes_cases;
+#[cfg(test)]
 mod elf_reader_cases;
 #[cfg(test)]
 mod event_list_cases;

@@ -10,6 +10,8 @@ mod master_cases;
 #[cfg(test)]
 mod nosquash_cases;
 #[cfg(test)]
+mod printing_cases;
+#[cfg(test)]
 mod seq_machine_cases;
 #[cfg(test)]
 mod slave_cases;

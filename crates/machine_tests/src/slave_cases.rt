@@ -11,7 +11,7 @@ use slave::{Ending, SlaveDid, Task};
 use std::alloc::{AllocError, Global};
 use std::test::Fail;
 
-const START: u32 = 0x1_0000;
+pub const START: u32 = 0x1_0000;
 
 /// Counts x5 down from 10, and exits.
 const TEN_TURNS: [u32; 6] = [
@@ -105,14 +105,14 @@ const HEAD: Anchor = Anchor {
     count: 2,
 };
 
-const FIRST: Anchor = Anchor {
+pub const FIRST: Anchor = Anchor {
     pc: START,
     slot: 0,
     count: 1,
 };
 
 /// The image of these numbers.
-fn image(alloc: Global, numbers: &[u32]) -> Result<Image, Fail>
+pub fn image(alloc: Global, numbers: &[u32]) -> Result<Image, Fail>
     ensures { IfOk result IsImage }
 {
     let mut bytes = Vec::new(alloc);
@@ -127,7 +127,7 @@ fn put_word(alloc: Global, s: &mut Arch<PlainMemory>, a: u32, word: u32) -> Resu
 }
 
 /// The state at the start of a program of these words, but that the stack pointer is 0 like all registers.
-fn start(alloc: Global, words: &[u32]) -> Result<Arch<PlainMemory>, AllocError> {
+pub fn start(alloc: Global, words: &[u32]) -> Result<Arch<PlainMemory>, AllocError> {
     let mut s = Arch {
         pc: START,
         regs: [0; 32],
@@ -160,7 +160,7 @@ fn turns_after(alloc: Global, steps: u32) -> Result<Arch<PlainMemory>, AllocErro
 }
 
 /// A task that begins at an anchor with a state's registers and memory.
-fn begun(
+pub fn begun(
     alloc: Global,
     anchor: &Anchor,
     s: &Arch<PlainMemory>,
@@ -172,7 +172,7 @@ fn begun(
 }
 
 /// What the events of a task answer until it is done.
-fn events(
+pub fn events(
     alloc: Global,
     task: &mut Task<PlainMemory>,
     image: &Image,
@@ -200,15 +200,15 @@ fn turned(alloc: Global) -> Result<Task<PlainMemory>, Fail> {
 }
 
 /// A task's number, steps, pc and ending.
-fn stand(task: &Task<PlainMemory>) -> (u64, u64, u32, Option<Ending>) {
+pub fn stand(task: &Task<PlainMemory>) -> (u64, u64, u32, Option<Ending>) {
     (task.number(), task.steps(), task.pc(), task.ending())
 }
 
-fn told(task: &Task<PlainMemory>, s: &Arch<PlainMemory>) -> Option<Differ> {
+pub fn told(task: &Task<PlainMemory>, s: &Arch<PlainMemory>) -> Option<Differ> {
     task.view().compare(s)
 }
 
-fn differ(cell: Cell, predicted: u32, found: u32) -> Option<Differ> {
+pub fn differ(cell: Cell, predicted: u32, found: u32) -> Option<Differ> {
     Some(Differ {
         cell,
         predicted,
@@ -316,7 +316,8 @@ fn no_other_byte_is_recorded(rt: HostRuntime) -> Result<(), Fail> {
 fn its_writes_are_applied(rt: HostRuntime) -> Result<(), Fail> {
     let task = turned(rt.alloc())?;
     let mut s = turns_after(rt.alloc(), 1)?;
-    task.view().apply(rt.alloc(), task.pc(), &mut s)?;
+    let mut out = Vec::new(rt.alloc());
+    task.view().apply(rt.alloc(), task.pc(), &mut s, &mut out)?;
     let wanted = turns_after(rt.alloc(), 5)?;
     assert_eq!(rt; (s.pc, s.regs[5]), (0x1_0004, 8));
     assert!(rt; s.pc == wanted.pc && s.regs == wanted.regs);

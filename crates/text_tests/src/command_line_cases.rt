@@ -120,6 +120,18 @@ fn reads_the_name_of_an_image(rt: HostRuntime) -> Result<(), Fail> {
     Ok(())
 }
 
+#[test]
+fn reads_the_names_to_certify(rt: HostRuntime) -> Result<(), Fail> {
+    for (program, image) in [("p", "i"), ("certify", "--input"), ("a b", "a b")] {
+        let words = words_of(rt.alloc(), &["certify", program, image])?;
+        assert_eq!(rt;
+            read_command(&words),
+            Some(Command::Certify { program, image })
+        );
+    }
+    Ok(())
+}
+
 static READS_REPLAYS_CASES: [(&[&str], Option<&str>, u8); 5] = [
     (&[], None, 4),
     (&["--slaves", "1"], None, 1),
@@ -185,13 +197,49 @@ fn reads_profiles_and_checks(rt: HostRuntime) -> Result<(), Fail> {
         };
         assert_eq!(rt;
             read_command(&profile),
-            Some(Command::Profile(want)),
+            Some(Command::Profile {
+                walk: want,
+                calls: false,
+            }),
             "at {options:?}"
         );
         assert_eq!(rt;
             read_command(&check),
             Some(Command::Check(want)),
             "at {options:?}"
+        );
+    }
+    Ok(())
+}
+
+static READS_CALLS_CASES: [(&[&str], Option<bool>); 6] = [
+    (&[], Some(false)),
+    (&["--calls", "0"], Some(false)),
+    (&["--calls", "1"], Some(true)),
+    (&["--calls", "2"], None),
+    (&["--calls", "01"], None),
+    (&["--calls", "1", "--calls", "1"], None),
+];
+
+#[test]
+fn reads_whether_calls_are_counted(rt: HostRuntime) -> Result<(), Fail> {
+    for &(options, want) in &READS_CALLS_CASES {
+        let mut words = words_of(rt.alloc(), &["profile", "p", "f"])?;
+        for option in options {
+            words.push(String::from_str(rt.alloc(), option)?)?;
+        }
+        let read = match read_command(&words) {
+            Some(Command::Profile { calls, .. }) => Some(calls),
+            _ => None,
+        };
+        assert_eq!(rt; read, want, "at {options:?}");
+        if let Some(first) = words.first_mut() {
+            *first = String::from_str(rt.alloc(), "check")?;
+        }
+        assert_eq!(rt;
+            read_command(&words).is_some(),
+            options.is_empty(),
+            "check at {options:?}"
         );
     }
     Ok(())
@@ -236,7 +284,7 @@ fn reads_distillations(rt: HostRuntime) -> Result<(), Fail> {
     Ok(())
 }
 
-static REFUSES_OTHER_WORDS_CASES: [&[&str]; 75] = [
+static REFUSES_OTHER_WORDS_CASES: [&[&str]; 83] = [
     &[],
     &[""],
     &["run"],
@@ -299,6 +347,14 @@ static REFUSES_OTHER_WORDS_CASES: [&[&str]; 75] = [
     &["check", "p"],
     &["check", "p", "i", "--report", "r"],
     &["check", "p", "i", "--budget", "1", "--budget", "1"],
+    &["certify"],
+    &["certify", "p"],
+    &["certify", "", "i"],
+    &["certify", "p", ""],
+    &["certify", "p", "i", "o"],
+    &["certify", "p", "i", "--input", "f"],
+    &["certify", "p", "i", "--budget", "1"],
+    &["certifies", "p", "i"],
     &["distill", "p", "f"],
     &["distill", "", "f", "o"],
     &["distill", "p", "", "o"],

@@ -11,7 +11,7 @@ use speculation::{Effect, Ending, Why};
 use std::alloc::{AllocError, Global};
 use std::test::Fail;
 
-/// An image with a line of every form.
+/// An image of version 1 with a line of every form.
 fn every_form(alloc: Global) -> Result<Image, AllocError>
     ensures { IfOk result (λ image. length image.assumptions ≡ 8) }
 {
@@ -58,11 +58,13 @@ fn every_form(alloc: Global) -> Result<Image, AllocError>
         Assumption::Span,
     ]?;
     Ok(Image {
+        version: 1,
         limit: 16_384,
         slots,
         anchors: vec![in alloc; anchor]?,
         notes: vec![in alloc; note]?,
         assumptions,
+        writes: Vec::new(alloc),
     })
 }
 
@@ -89,6 +91,45 @@ fn each_form_has_its_line(rt: HostRuntime) -> Result<(), Fail> {
     let mut sink = SureSink::new(alloc);
     put_image(alloc, &mut sink, &every_form(alloc)?)?;
     assert_eq!(rt; sink.bytes(), TEXT.as_bytes());
+    Ok(())
+}
+
+/// An image with what only version 2 knows.
+fn second_version(alloc: Global) -> Result<Image, AllocError>
+    ensures { IfOk result (λ image. length image.assumptions ≡ 2) }
+{
+    let same = Assumption::Same {
+        at: 0x1_0008,
+        value: 0xFFFF_FF80,
+    };
+    let mut image = empty_image(alloc);
+    image.version = 2;
+    image.limit = 4_096;
+    image.assumptions = vec![in alloc; Assumption::Span, same]?;
+    image.writes = vec![in alloc; 0x1_0014, 0xFFFF_FFFC]?;
+    Ok(image)
+}
+
+#[test]
+fn version_2_has_lines_of_its_own(rt: HostRuntime) -> Result<(), Fail> {
+    let alloc = rt.alloc();
+    let image = second_version(alloc)?;
+    let mut sink = SureSink::new(alloc);
+    put_image(alloc, &mut sink, &image)?;
+    let broken = Verdict::Broken {
+        position: 2,
+        which: 1,
+    };
+    put_verdict(alloc, &mut sink, &image, &broken)?;
+    let text = "version 2
+limit 4096
+span
+same 00010008 ffffff80
+writes 00010014
+writes fffffffc
+broken 2 same 00010008
+";
+    assert_eq!(rt; sink.bytes(), text.as_bytes());
     Ok(())
 }
 

@@ -1,0 +1,163 @@
+//! Programs of a few words, and profiles and images that are made by hand.
+
+ghost use Rattle.std.specs.Prelude.{◌≤◌};
+ghost use Rattle.distiller.specs.Asked.{IsInRange};
+
+use dist_image::Anchor;
+use distiller::Options;
+use elf_reader::{Part, Program};
+use profile_data::{Profile, read_profile};
+use std::alloc::{AllocError, Global};
+use std::test::Fail;
+
+/// The address of the first word of each program.
+const START: u32 = 0x1_0000;
+
+/// A row without targets: its address, its flags, how often it was executed, and how often taken.
+pub(crate) type Counts = (u32, u32, u64, u64);
+
+/// A loop of ten turns with a comparison in it that is never true.
+pub(crate) static NEVER_TRUE: [u32; 10] = [
+    0x00A0_0293,
+    0x0002_A313,
+    0x0003_1863,
+    0xFFF2_8293,
+    0xFE02_9AE3,
+    0x0080_006F,
+    0x0010_0073,
+    0x0000_0513,
+    0x05D0_0893,
+    0x0000_0073,
+];
+
+/// The rows of its run.
+pub(crate) static NEVER_ROWS: [Counts; 9] = [
+    (0x1_0000, 0, 1, 0),
+    (0x1_0004, 0, 10, 0),
+    (0x1_0008, 0, 10, 0),
+    (0x1_000C, 0, 10, 0),
+    (0x1_0010, 0, 10, 9),
+    (0x1_0014, 0, 1, 0),
+    (0x1_001C, 0, 1, 0),
+    (0x1_0020, 0, 1, 0),
+    (0x1_0024, 0, 1, 0),
+];
+
+/// A store of a byte that nothing loads, and a write of it.
+pub(crate) static STORE_FOR_WRITE: [u32; 10] = [
+    0x0002_05B7,
+    0x0410_0293,
+    0x0055_8023,
+    0x0010_0513,
+    0x0010_0613,
+    0x0400_0893,
+    0x0000_0073,
+    0x0000_0513,
+    0x05D0_0893,
+    0x0000_0073,
+];
+
+/// A write of three bytes, and the exit.
+pub(crate) static HELLO: [u32; 10] = [
+    0x0010_0513,
+    0x0000_0597,
+    0x0205_8593,
+    0x0030_0613,
+    0x0400_0893,
+    0x0000_0073,
+    0x0000_0513,
+    0x05D0_0893,
+    0x0000_0073,
+    0x000A_6968,
+];
+
+/// The rows of its run, where short writes are counted.
+pub(crate) static HELLO_ROWS: [Counts; 9] = [
+    (0x1_0000, 0, 1, 0),
+    (0x1_0004, 0, 1, 0),
+    (0x1_0008, 0, 1, 0),
+    (0x1_000C, 0, 1, 0),
+    (0x1_0010, 0, 1, 0),
+    (0x1_0014, 0, 1, 1),
+    (0x1_0018, 0, 1, 0),
+    (0x1_001C, 0, 1, 0),
+    (0x1_0020, 0, 1, 0),
+];
+
+/// The bytes of numbers, the lowest byte of each first.
+pub(crate) fn bytes_of(alloc: Global, numbers: &[u32]) -> Result<Vec<u8>, AllocError> {
+    let mut bytes = Vec::new(alloc);
+    for number in numbers {
+        bytes.extend_from_slice(&number.to_le_bytes())?;
+    }
+    Ok(bytes)
+}
+
+/// The program that has these words.
+pub(crate) fn program(alloc: Global, words: &[u32]) -> Result<Program, AllocError> {
+    let mut parts = Vec::new(alloc);
+    parts.push(Part {
+        at: START,
+        bytes: bytes_of(alloc, words)?,
+        zeros: 0,
+    })?;
+    Ok(Program {
+        entry: START,
+        parts,
+        first_break: START + 0x1000,
+    })
+}
+
+/// The bytes of a row, with its targets.
+fn put_row(bytes: &mut Vec<u8>, row: Counts, targets: &[u32]) -> Result<(), AllocError> {
+    let (pc, flags, executed, taken) = row;
+    bytes.extend_from_slice(&pc.to_le_bytes())?;
+    bytes.extend_from_slice(&flags.to_le_bytes())?;
+    bytes.extend_from_slice(&executed.to_le_bytes())?;
+    bytes.extend_from_slice(&taken.to_le_bytes())?;
+    bytes.extend_from_slice(&(targets.len() as u64).to_le_bytes()[..4])?;
+    for target in targets {
+        bytes.extend_from_slice(&target.to_le_bytes())?;
+    }
+    Ok(())
+}
+
+/// The profile of so many steps that has these rows; the last one has the targets.
+pub(crate) fn profile(
+    alloc: Global,
+    steps: u64,
+    rows: &[Counts],
+    targets: &[u32],
+) -> Result<Profile, Fail> {
+    let mut bytes = Vec::new(alloc);
+    bytes.extend_from_slice(b"MSPF\x01\0\0\0")?;
+    bytes.extend_from_slice(&steps.to_le_bytes())?;
+    bytes.extend_from_slice(&0_u32.to_le_bytes())?;
+    bytes.extend_from_slice(&(rows.len() as u64).to_le_bytes()[..4])?;
+    if let Some((last, others)) = rows.split_last() {
+        for row in others {
+            put_row(&mut bytes, *row, &[])?;
+        }
+        put_row(&mut bytes, *last, targets)?;
+    }
+    Ok(read_profile(alloc, &bytes)?)
+}
+
+/// The default options, but for the most steps of a task.
+pub(crate) fn options(limit: u32) -> Options
+    requires least { 16 ≤ limit }
+    requires most { limit ≤ 16_384 }
+    ensures { IsInRange result }
+{
+    Options {
+        rare: 10,
+        hot: 2,
+        goal: 200,
+        limit,
+    }
+}
+
+/// An anchor by its fields.
+pub(crate) fn anchor(pc: u32, slot: u32, count: u32) -> Anchor {
+    Anchor { pc, slot, count }
+}
