@@ -24,7 +24,8 @@ and four slaves run ahead. What is put goes nowhere. Each list is replayed once 
 before, and the lines that come are counted: one for each event, and eight of the summary.
 
 --rounds runs that loop for 2,000,000 instructions: without an image, by serial steps alone
-that a report sums up, and in rounds beside the image, with 1, 4 and 16 slaves.  It prints
+that a report sums up, and in rounds beside the image, with 1, 4 and 16 slaves; and a loop that
+prints a byte a turn, beside an image whose tasks do that call.  It prints
 millions of committed instructions per second, where the report says how many were
 committed, and of how many of them tasks took care.
 
@@ -79,6 +80,9 @@ EARLIER = (1_000_000, 2_000_000)
 
 # adds 1 to x5 and jumps back to that
 LOOP = (0x00128293, 0xFFDFF06F)
+
+# writes the byte at 0x00010000 and jumps back to the start
+PRINTING = (0x00100513, 0x000105B7, 0x00100613, 0x04000893, 0x00000073, 0xFEDFF06F)
 EVENTS = 2_000_000
 
 # x5 = x6, and at the end of a line of these x10 = x9 and an exit
@@ -227,6 +231,13 @@ def loop_image():
     return header + slots + numbers(0x10000, 0, 16) + notes
 
 
+def printing_image():
+    """An image of the loop that prints: tasks do its call, and pass its head 16 times."""
+    header = numbers(0x5053534D, 2, 128, 2, 1, 1, 0, 1)
+    slots = numbers(2, 0, 0, 1, 0x10000, 0)
+    return header + slots + numbers(0x10000, 0, 16, 0x10000, 0, 0, 0, 0x10010)
+
+
 def load(size, to, base, offset):
     return 0x03 | {1: 4, 2: 5, 4: 2}[size] << 12 | to << 7 | base << 15 | offset << 20
 
@@ -332,6 +343,11 @@ def show_rounds(binary, runs):
             words = [*alone, "--report", report, *options]
             best = min(reported(words, report) for _ in range(runs))
             print(f"{name:24}{best[1]:14}{best[2]:14}{best[1] / best[0] / 1e6:14.2f}", flush=True)
+        Path(program).write_bytes(program_of(PRINTING))
+        Path(image).write_bytes(printing_image())
+        words = [*alone, "--report", report, "--image", image]
+        best = min(reported(words, report) for _ in range(runs))
+        print(f"{'tasks that print':24}{best[1]:14}{best[2]:14}{best[1] / best[0] / 1e6:14.2f}", flush=True)
 
 
 def show_distilling(binary, programs, runs):
@@ -499,6 +515,11 @@ def figures(binary):
     files["queens"] = EXAMPLES / "corpus" / "elf" / "queens.elf"
     with tempfile.TemporaryDirectory() as folder:
         yield "replay idle", idle_for_each(binary, folder)
+        program, image = (os.path.join(folder, name) for name in ("elf", "image"))
+        Path(program).write_bytes(program_of(PRINTING))
+        Path(image).write_bytes(printing_image())
+        yield ("run --image printing, slaves 4",
+               committed_for_each(binary, program, image, 4, folder, EARLIER))
         for name, file in files.items():
             profile, image = (os.path.join(folder, kind) for kind in ("profile", "distilled"))
             subprocess.run([binary, "profile", str(file), profile], check=True)

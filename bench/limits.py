@@ -35,6 +35,16 @@ def executable(code: list[int], size: int | None = None) -> bytes:
 EXIT = [0x00000513, 0x05D00893, 0x00000073]
 
 
+# Sets the registers of a call that writes 256 bytes; then each pair sets the descriptor and writes; then it jumps back.
+PRINTS = [0x000105B7, 0x10000613, 0x04000893] + [0x00100513, 0x00000073] * 2_046 + [0x804FC06F]
+
+
+def printing() -> bytes:
+    """An image of version 2: a task begins at the first word, and does each of the calls."""
+    calls = [BASE + 4 * i for i, word in enumerate(PRINTS) if word == 0x0000_0073]
+    return words(0x5053534D, 2, 4_096, 2, 1, 1, 0, len(calls), FORK, 0, 0, GO, BASE, 0, BASE, 0, 1, BASE, 0, 0, 0, *calls)
+
+
 def image() -> bytes:
     """Every table of an image at its greatest: anchors and notes at each second word, and all targets on one jump."""
     pcs = [BASE + 4 * i for i in range(NOTES)]
@@ -74,6 +84,8 @@ def measure(command: list[str], folder: str) -> Measure:
 def write_files(room: Path) -> None:
     files = {
         "small": executable(EXIT),
+        "prints": executable(PRINTS),
+        "printing": printing(),
         # A jump through a register, then code that does nothing: as many rows as a profile has.
         "line": executable([0x00028067] + [0x00128293] * (ROWS - 4) + EXIT),
         "program": executable(EXIT, 16 * MIB),
@@ -97,7 +109,9 @@ CASES = [
     ("show, one byte more", "image.long", "show ./image.long", 117),
     ("check beside it", "image", "check ./small ./image", 0),
     ("run beside it", "image", "run ./small --image ./image --report ./report", 0),
+    ("run, 64 tasks that print half a megabyte each", "printing", "run ./prints --image ./printing --report ./report --slaves 64 --budget 1000000", 120),
     ("distill, the greatest profile", "profile", "distill ./line ./profile ./made", 0),
+    ("certify of what it made", "made", "certify ./line ./made", 0),
     ("distill, one byte more", "profile.long", "distill ./line ./profile.long ./made", 118),
     ("replay, the longest list of comments", "comments", "replay ./small ./image.empty ./comments", 0),
     ("replay, the longest list of lines", "idle", "replay ./small ./image.empty ./idle", 0),

@@ -209,6 +209,14 @@ if [ -n "$binary" ]; then
   for name in lazy kept; do
     if speculates "$name"; then pass "replay and run with $name.img"; else failed=$((failed + 1)); fi
   done
+  if command -v python3 >/dev/null; then
+    if python3 speculation/rules.py "$binary" >"$room/out"; then
+      pass 'images that break a rule of fitting each'
+    else
+      cat "$room/out"
+      failed=$((failed + 1))
+    fi
+  fi
 fi
 
 [ -z "$uncounted" ] || echo "not the counted programs, so without the budgets:$uncounted"

@@ -24,26 +24,29 @@ MIB = 1 << 20
 STEP = 64 << 10
 BUDGET = 4_000
 EXEC, GO, FORK = 0, 1, 2
-CUT, TARGETS, DEAD, CODE, WITHIN, SPAN = range(6)
-MAGIC = 0x5053534D
+CUT, TARGETS, DEAD, CODE, WITHIN, SPAN, SAME = range(7)
+MAGIC, CALL = 0x5053534D, 0x73
 
 Row = tuple[int, ...]
 
 
 @dataclass
 class Image:
-    """The four tables of an image, entry by entry, as the file has them."""
+    """The tables of an image, entry by entry, as the file has them. Only version 2 has writes."""
 
     limit: int = 16
     slots: list[Row] = field(default_factory=list)
     anchors: list[Row] = field(default_factory=list)
     notes: list[Row] = field(default_factory=list)
     assumptions: list[Row] = field(default_factory=list)
+    version: int = 1
+    writes: list[int] = field(default_factory=list)
 
     def file(self) -> bytes:
         tables = (self.slots, self.anchors, self.notes, self.assumptions)
-        words = [MAGIC, 1, self.limit, *map(len, tables)]
-        words += [word for table in tables for entry in table for word in entry]
+        words = [MAGIC, self.version, self.limit, *map(len, tables)]
+        words += [len(self.writes)] if self.version == 2 else []
+        words += [word for table in tables for entry in table for word in entry] + self.writes
         return struct.pack(f"<{len(words)}I", *words)
 
     @staticmethod
@@ -53,11 +56,13 @@ class Image:
         def entries(count: int, size: int) -> list[Row]:
             return [tuple(next(words) for _ in range(size)) for _ in range(count)]
 
-        _, _, limit, slots, anchors, notes, assumptions = (next(words) for _ in range(7))
-        image = Image(limit, entries(slots, 3), entries(anchors, 3), entries(notes, 4))
+        _, version, limit, slots, anchors, notes, assumptions = (next(words) for _ in range(7))
+        writes = next(words) if version == 2 else 0
+        image = Image(limit, entries(slots, 3), entries(anchors, 3), entries(notes, 4), version=version)
         for _ in range(assumptions):
             head = tuple(next(words) for _ in range(4))
             image.assumptions.append(head + tuple(next(words) for _ in range(head[3])))
+        image.writes = [next(words) for _ in range(writes)]
         return image
 
 
@@ -72,9 +77,10 @@ class Example:
         self.tools = tools
         self.alone: dict[int, tuple[int, bytes]] = {}
         profile, image = tools.room / "profile", tools.room / "distilled"
-        tools.must("profile", self.program, profile, *self.words, "--budget", BUDGET)
+        tools.must("profile", self.program, profile, *self.words, "--budget", BUDGET, "--calls", 1)
         tools.must("distill", self.program, profile, image)
         self.image = image.read_bytes()
+        self.writes = Image.read(self.image).writes
         rows, at = profile.read_bytes(), 24
         self.pcs = []
         while at < len(rows):
@@ -147,7 +153,7 @@ class Drawing:
 
     def word(self) -> int:
         kinds = [0x13, 0x33, 0x37, 0x03, 0x23, 0x63, 0x6F, 0x67, 0x73, 0x0F]
-        return self.random.choice([self.random.getrandbits(32), self.random.getrandbits(25) << 7 | self.random.choice(kinds)])
+        return self.random.choice([CALL, self.random.getrandbits(32), self.random.getrandbits(25) << 7 | self.random.choice(kinds)])
 
     def slot(self, anchors: int) -> Row:
         kind = self.random.choice([EXEC, EXEC, GO, FORK] if anchors else [EXEC, EXEC, GO])
@@ -210,11 +216,22 @@ class Drawing:
                 table[at] = (table[at][0], self.random.randrange(len(image.slots)), self.arrivals())
         return image
 
+    def second(self, image: Image) -> None:
+        """Makes it one of version 2: calls that tasks do, or no calls at all, and loads of values that nobody has seen."""
+        image.version = 2
+        image.writes = sorted({*self.pcs(3), *(pc for pc in self.example.writes if self.random.randrange(4))})
+        image.assumptions = [entry for entry in image.assumptions if entry[0] != SAME]
+        image.assumptions += [(SAME, pc, self.random.choice([0, self.random.getrandbits(32)]), 0) for pc in self.pcs(2)]
+
     def image(self) -> tuple[str, Image]:
         made = self.random.choice([self.anything, self.forks_at_one_pc, self.into_nowhere, self.never_forks, self.damaged, self.damaged])
         image = made()
         if self.random.randrange(3) == 0:
             image.limit = self.limit()
+        if self.random.randrange(2):
+            self.second(image)
+        if image.version == 2:
+            image.limit = min(image.limit, 4_096)
         return made.__name__, image
 
     def events(self, slaves: int) -> bytes:

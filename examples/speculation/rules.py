@@ -1,12 +1,12 @@
 #!/usr/bin/env python3
 """rules.py BINARY   why an image has to meet each of the seven rules of fitting
 
-Makes a program, an image that fits it, and for each rule an image that breaks this rule alone. The run meets what each of them
-lists (`mssp check`), and beside the one that fits nothing is squashed or given up; beside each of the others something is. It
-prints a line for each image: the rule, how often tasks were squashed and given up, and the first squash. The status is 1 where
-one is not so.
+Makes a program, an image that fits it, and for each rule an image that breaks this rule alone; `mssp certify` tells the same of it.
+The run meets what each of them lists (`mssp check`), and beside the one that fits nothing is squashed or given up; beside each of
+the others something is. It prints a line for each image: the rule, how often tasks were squashed and given up, and the first squash.
+The status is 1 where one is not so.
 
-The rules are those of docs/THEORY.md, section 5: `Fits` in crates/fitting/specs/Fits.antt.
+The rules are those of docs/FORMATS.md, "When an image fits": `Fits` in crates/fitting/specs/Fits.antt.
 """
 
 import struct
@@ -19,6 +19,7 @@ from pathlib import Path
 
 BASE, EXEC, GO, FORK = 0x0001_0000, 0, 1, 2
 TARGETS, CODE, WITHIN, SPAN = 1, 3, 4, 5
+RULES = ("listed", "forks", "placed", "passed", "aimed", "live", "need")
 
 
 @dataclass(frozen=True)
@@ -143,30 +144,37 @@ def needed(image: Image, need: dict[int, frozenset[int]], at: int) -> frozenset[
     return after if at in image.passed else PROGRAM[at].reads | after - PROGRAM[at].writes
 
 
-def broken(image: Image) -> set[str]:
-    """The rules that an image breaks, each by its field of `Fits`."""
+def broken(image: Image) -> set[tuple[int, str]]:
+    """The rules that an image breaks, each by its field of `Fits`, with the pc where it does."""
     places, slots = image.places()
     found = set()
     if set(image.listed) != {CODE, WITHIN, SPAN}:
-        found.add("listed")
-    if any(slots[places[at]] != (FORK, number, 0) for number, at in enumerate(image.anchors)):
-        found.add("forks")
+        found.add((0, "listed"))
+    found |= {(at, "forks") for number, at in enumerate(image.anchors) if slots[places[at]] != (FORK, number, 0)}
     for at, instruction in PROGRAM.items():
         after = at + 4
         if at in image.passed:
             body = places[at] + (at in image.anchors)
             if slots[body] != (GO, after, 0) and places[after] != body:
-                found.add("placed")
+                found.add((at, "placed"))
             if instruction.bound or instruction.writes & image.need[after]:
-                found.add("passed")
+                found.add((at, "passed"))
         if instruction.by_register and not image.targets:
-            found.add("aimed")
+            found.add((at, "aimed"))
         if not alive(image, image.live, at) <= image.live[at]:
-            found.add("live")
+            found.add((at, "live"))
         asked = image.live[at] if at in image.anchors else frozenset()
         if not needed(image, image.need, at) | asked <= image.need[at]:
-            found.add("need")
+            found.add((at, "need"))
     return found
+
+
+def certified(found: set[tuple[int, str]]) -> str:
+    """What `mssp certify` has to say of an image that breaks these rules: the least pc, and the least rule there."""
+    if not found:
+        return "fits"
+    at, number = min((at, RULES.index(rule) + 1) for at, rule in found)
+    return f"unfit {at:08x} rule {number}"
 
 
 def without_rising() -> Image:
@@ -208,15 +216,17 @@ def tried(binary: str, room: Path, rule: str) -> bool:
         done = subprocess.run([binary, *words], cwd=room, stdin=subprocess.DEVNULL, capture_output=True, text=True, check=False)
         return (done.stdout + done.stderr).splitlines()
 
-    verdict = told("check", "program", "image")[0]
+    fit, verdict = told("certify", "program", "image")[0], told("check", "program", "image")[0]
     lines = told("replay", "program", "image", "events")
+    found = broken(image)
     counts = dict(line.split(" ", 1) for line in lines[-8:])
     squash = next((line for line in lines if line.startswith("squashed ") and "predicted" in line), "")
     lost = counts["squashed"] != "0" or counts["dropped"] != "0"
-    right = broken(image) == {rule} - {"none"} and verdict == "met 84" and counts["end"] == "exit 95" and lost == (rule != "none")
+    alone = {name for _, name in found} == {rule} - {"none"} and fit == certified(found)
+    right = alone and verdict == "met 84" and counts["end"] == "exit 95" and lost == (rule != "none")
     print(f"{'' if right else 'FAILED '}{rule}: squashed {counts['squashed']}, given up {counts['dropped']}  {squash}".rstrip())
     if not right:
-        print(f"    breaks {sorted(broken(image))}; {verdict}; {lines[-8:]}")
+        print(f"    breaks {sorted(found)}; {fit}; {verdict}; {lines[-8:]}")
     return right
 
 
