@@ -26,7 +26,7 @@ TICKS = os.sysconf("SC_CLK_TCK")
 KINDS = ("proof", "tests", "edits")
 
 # Seconds of processor time that a crate may cost. docs/MAP.md gives the reasons.
-BUDGET = {"proof": 150, "tests": 150, "edits": 250}
+BUDGET = {"proof": 150, "tests": 350, "edits": 300}
 ROW = re.compile(r"^\| `(\w+)` \| (\d+) \| (\d+) \| (\d+) \| \d+ \|$", re.MULTILINE)
 
 
@@ -125,7 +125,8 @@ def print_table(clock: float, used: float, sums: dict[str, dict[str, float]]) ->
 
 def over() -> int:
     """Lists what is past the budget in the table of docs/MAP.md."""
-    rows = ROW.findall((TOP / "docs" / "MAP.md").read_text(encoding="utf-8"))
+    page = (TOP / "docs" / "MAP.md").read_text(encoding="utf-8")
+    rows = ROW.findall(page.partition("| Crate | Proof |")[2].partition("\n\n")[0])
     past = 0
     for name, *seconds in rows:
         for kind, used in zip(KINDS, map(int, seconds)):

@@ -94,6 +94,6 @@ fn refusals_and_faults_of_certify_are_told(rt: HostRuntime) -> Result<(), Fail> 
     }
     let left = certify(alloc, &COMPARE_LOOP, b"MSSP".to_vec(alloc)?, SURE)?;
     assert_eq!(rt; left.status, 117);
-    assert_eq!(rt; left.err.as_slice(), b"mssp: image m: short\n");
+    assert_eq!(rt; left.err.as_slice(), b"mssp: image m: short\n".as_slice());
     Ok(())
 }

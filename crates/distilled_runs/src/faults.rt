@@ -30,10 +30,9 @@ static CALLS: [(&[&str], &[&str]); 11] = [
 ];
 
 fn files(alloc: Global, words: &[&str]) -> Result<Files, AllocError> {
-    let image: &[u32] = if words[0] == "distill" {
-        &COMPARE_LOOP_PROFILE
-    } else {
-        &COMPARE_NEVER_TRUE
+    let image: &[u32] = match words {
+        ["distill", ..] => &COMPARE_LOOP_PROFILE,
+        _ => &COMPARE_NEVER_TRUE,
     };
     Ok(Files {
         program: frame(alloc, &COMPARE_LOOP)?,

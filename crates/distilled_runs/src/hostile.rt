@@ -154,7 +154,7 @@ fn each_put_fails_in_turn(rt: HostRuntime) -> Result<(), Fail> {
             if left.status == status {
                 break;
             }
-            failed += 1;
+            failed = out;
             assert_eq!(rt; left.status, 113, "{words:?} {out}");
             assert!(rt; whole.out.starts_with(&left.out), "{words:?} {out}");
             assert_eq!(rt; left.err.as_slice(), b"mssp: sink fault\n".as_slice());

@@ -191,17 +191,16 @@ pub(crate) fn image_of(alloc: Global, program: &[u32], calls: &str) -> Result<Ve
     Ok(image.report)
 }
 
-static CHECKS: [(&[u32], &str, &[u8]); 4] = [
-    (&HELLO, "1", b"met 9\n"),
-    (&HELLO, "0", b"met 9\n"),
-    (&PRINTS_TEN, "1", b"met 74\n"),
-    (&PRINTS_TEN, "0", b"met 74\n"),
-];
-
 #[test]
 fn a_run_meets_what_its_own_profile_gives(rt: HostRuntime) -> Result<(), Fail> {
     let alloc = rt.alloc();
-    for (program, calls, line) in CHECKS {
+    let checks: [(&[u32], &str, &[u8]); 4] = [
+        (&HELLO, "1", b"met 9\n"),
+        (&HELLO, "0", b"met 9\n"),
+        (&PRINTS_TEN, "1", b"met 74\n"),
+        (&PRINTS_TEN, "0", b"met 74\n"),
+    ];
+    for (program, calls, line) in checks {
         let image = image_of(alloc, program, calls)?;
         let left = over(alloc, &["check", "p", "m"], program, &image)?;
         assert_eq!(rt; left.out.as_slice(), line);

@@ -70,7 +70,7 @@ fn changed(alloc: Global, changes: &[(usize, u32)]) -> Result<Vec<u8>, Fail> {
 
 static A_REFUSED_IMAGE_IS_TOLD_BY_ITS_FIRST_FAULT_CASES: [(&[(usize, u32)], &str); 21] = [
     (&[(0, 0x4D53_5350)], "magic"),
-    (&[(1, 2)], "version"),
+    (&[(1, 3)], "version"),
     (&[(2, 15)], "limit"),
     (&[(3, 1_048_577)], "too many slots"),
     (&[(4, 524_289)], "too many anchors"),
