@@ -30,7 +30,7 @@ fn file(alloc: Global, words: &[u32], size: u32) -> Result<Vec<u8>, AllocError> 
 }
 
 /// The program of these words at 0x00010000, which take so many bytes.
-fn program(alloc: Global, words: &[u32], size: u32) -> Result<Program, Fail>
+pub(crate) fn program(alloc: Global, words: &[u32], size: u32) -> Result<Program, Fail>
     ensures { IfOk result IsProgram }
 {
     let file = file(alloc, words, size)?;

@@ -1,0 +1,6 @@
+pub mod Values
+pub mod Bytes
+pub mod Reading
+pub mod Found
+pub mod Sights
+pub mod Counted
