@@ -1,22 +1,14 @@
 -- The targets of the assumptions that were read are no more than the format allows.
-use Rattle.std.proofs.Common.{◌≡◌, ℕ, zero, suc, ◌+◌, ◌*◌, ◌^◌, ◌≤◌, ◌==◌, Bool, true, false, cond, not, ltb, List, [], ◌∷◌, length, Result, Ok, Err, sym, ap, subst, ◌∙◌, arith}
+use Rattle.std.proofs.Common.{◌≡◌, ℕ, ◌+◌, ◌*◌, ◌^◌, ◌≤◌, ◌==◌, Bool, true, false, cond, not, ltb, List, length, Ok, Err, ap, subst, ◌∙◌, arith}
 use Rattle.std.proofs.lemmas.Bool.{ltb-false}
-use Rattle.dist_image.specs.declared.error.ImageErr.{ImageErr}
 use Rattle.dist_image.specs.declared.error.ImageErr.TheVariants.{Short, Kind, Range, Order, TooMany}
 use Rattle.dist_image.specs.declared.error.Table.TheVariants as table
 use Rattle.dist_image.specs.declared.entry.Head.{Head}
 use Rattle.dist_image.specs.Image.{Premise, Cut, Targets, Dead, Code, Within, Span, Same, targets_of}
-use Rattle.dist_image.specs.Reading.{◌>>=◌, entries, is_aligned, has_form, admit_head, next_head, next_pc, next_word, targets_in, premise_from, next_premise}
-use Rattle.dist_image.proofs.Words.{bind_ok, passed, not_false, ok_is}
-
--- as many entries are read as are counted
-pub entries_length : {A S : Type 0} (read : ℕ → S → List ℕ → Result (A × List ℕ) ImageErr) (see : S → A → S) (n i : ℕ) (seen : S) (bytes : List ℕ) (x : List A × List ℕ) → entries read see n i seen bytes ≡ Ok x → length x.0 ≡ n
-unfolding entries
-entries_length read see zero i seen bytes x e = sym (ap (λ (y : List _ × List ℕ). length y.0) (ok_is ([], bytes) x e))
-entries_length read see (suc n) i seen bytes x e =
-    let a = bind_ok (read i seen bytes) (λ first. entries read see n (i + 1) (see seen first.0) first.1 >>= λ others. Ok (first.0 ∷ others.0, others.1)) x e in
-    let b = bind_ok (entries read see n (i + 1) (see seen a.0.0) a.0.1) (λ others. Ok (a.0.0 ∷ others.0, others.1)) x a.2 in
-    sym (ap (λ (y : List _ × List ℕ). length y.0) (ok_is (a.0.0 ∷ b.0.0, b.0.1) x b.2)) ∙ ap suc (entries_length read see n (i + 1) (see seen a.0.0) a.0.1 b.0 b.1)
+use Rattle.word_format.specs.Reading.{◌>>=◌, is_aligned}
+use Rattle.dist_image.specs.Reading.{targets_err, has_form, admit_head, next_head, next_word, targets_in, premise_from, next_premise}
+use Rattle.word_format.proofs.Numbers.{bind_ok, passed, not_false, ok_is}
+use Rattle.word_format.proofs.Targets.{named_length}
 
 -- the tests that an assumption has passed
 pub record IsAdmitted (version due before left : ℕ) (h : Head) : Type 0 where
@@ -64,7 +56,7 @@ few_targets version i seen bytes x e =
     let ad = admitted version i seen.0 seen.1 (length targets.0.1) (record { kind = kind.0.0; at = at.0.0; value = value.0.0; targets = targets.0.0 }) g.0 g.1 in
     let same : g.0 ≡ h.0.0 = ap (λ (p : Head × List ℕ). p.0) (ok_is (g.0, targets.0.1) h.0 g.2) in
     let few : seen.1 + h.0.0.targets ≤ 1_048_576 = subst (λ (k : Head). seen.1 + k.targets ≤ 1_048_576) (ad.0 ∙ same) ad.1.few in
-    let count : length to.0.0 ≡ h.0.0.targets = entries_length {S = ℕ} (λ _ due rest. next_pc table.Targets i due rest) (λ _ t. t + 1) h.0.0.targets 0 0 h.0.1 to.0 to.1 in
+    let count : length to.0.0 ≡ h.0.0.targets = named_length (targets_err i) h.0.0.targets h.0.1 to.0 to.1 in
     let fewer = few_from (h.0.0.kind == 0) (h.0.0.kind == 1) (h.0.0.kind == 2) (h.0.0.kind == 3) (h.0.0.kind == 4) (h.0.0.kind == 5) h.0.0.at h.0.0.value (h.0.0.value == 1) to.0.0 in
     let is : premise_from h.0.0 to.0.0 ≡ x.0 = ap (λ (p : Premise × List ℕ). p.0) (ok_is (premise_from h.0.0 to.0.0, to.0.1) x to.2) in
     subst (λ (p : Premise). seen.1 + length (targets_of p) ≤ 1_048_576) is (omega (arith, few, count, fewer))

@@ -1,34 +1,35 @@
 -- An entry that is read is the entry that was written, and what was written is read again.
 use Rattle.std.proofs.Common.{◌≡◌, ℕ, ◌^◌, ◌<◌, ◌≤◌, Bool, true, false, cond, not, ◌&&◌, ltb, leb, List, [], ◌∷◌, ◌++◌, Option, Some, None, Result, Ok, Err, refl, sym, ap, subst, ◌∙◌, arith}
-use Rattle.std.specs.Int.{w32, to_le_bytes}
 use Rattle.std.proofs.lemmas.Bool.{ltb-false, ltb-true, leb-true, eqb-true, lt-ltb, le-ltb, le-leb, eq-eqb}
 use Rattle.std.proofs.lemmas.Bool.Decides.{nat_tests}
 use Rattle.dist_image.specs.declared.error.ImageErr.{ImageErr}
-use Rattle.dist_image.specs.declared.error.ImageErr.TheVariants.{Range, Order}
+use Rattle.dist_image.specs.declared.error.ImageErr.TheVariants.{Short, Range, Order}
 use Rattle.dist_image.specs.declared.error.Table.TheVariants as table
 use Rattle.dist_image.specs.declared.image.Slot.{Slot}
 use Rattle.dist_image.specs.declared.image.Slot.TheVariants.{Exec, Go, Fork}
 use Rattle.dist_image.specs.declared.image.Anchor.{Anchor}
 use Rattle.dist_image.specs.declared.image.Note.{Note}
 use Rattle.dist_image.specs.Image.{IsSlot, IsAnchor, IsNote}
-use Rattle.dist_image.specs.Bytes.{words, slot_words, anchor_words, note_words}
-use Rattle.dist_image.specs.Reading.{◌>>=◌, next_word, is_aligned, is_mask, slot_from, is_slot, admit_slot, next_slot, admit_anchor, next_anchor, admit_note, next_note}
-use Rattle.dist_image.proofs.Words.{IsBytes, bind_ok, passed, not_false, both, ok_is, Takes, Takes-then, word_takes, word_again}
+use Rattle.word_format.specs.Bytes.{words}
+use Rattle.dist_image.specs.Bytes.{slot_words, anchor_words, note_words}
+use Rattle.word_format.specs.Reading.{◌>>=◌, is_aligned}
+use Rattle.dist_image.specs.Reading.{next_word, is_mask, slot_from, is_slot, admit_slot, next_slot, admit_anchor, next_anchor, admit_note, next_note}
+use Rattle.word_format.proofs.Numbers.{IsBytes, bind_ok, passed, not_false, both, ok_is, Takes, Takes-then, word_takes, word_step}
 
 -- ---- three and four numbers
 
 pub three_take : (bytes : List ℕ) (a b c : ℕ × List ℕ) → IsBytes bytes → next_word bytes ≡ Ok a → next_word a.1 ≡ Ok b → next_word b.1 ≡ Ok c →
     Takes bytes (words (a.0 ∷ b.0 ∷ c.0 ∷ [])) c.1 × (a.0 < 2 ^ 32) × (b.0 < 2 ^ 32) × (c.0 < 2 ^ 32)
 three_take bytes a b c fits is_a is_b is_c =
-    let x = word_takes bytes a fits is_a in
-    let y = word_takes a.1 b x.0.rest_fits is_b in
-    let z = word_takes b.1 c y.0.rest_fits is_c in
+    let x = word_takes Short bytes a fits is_a in
+    let y = word_takes Short a.1 b x.0.rest_fits is_b in
+    let z = word_takes Short b.1 c y.0.rest_fits is_c in
     (Takes-then _ _ _ _ _ x.0 (Takes-then _ _ _ _ _ y.0 z.0), x.1, y.1, z.1)
 
 pub four_take : (bytes : List ℕ) (a b c d : ℕ × List ℕ) → IsBytes bytes → next_word bytes ≡ Ok a → next_word a.1 ≡ Ok b → next_word b.1 ≡ Ok c → next_word c.1 ≡ Ok d →
     Takes bytes (words (a.0 ∷ b.0 ∷ c.0 ∷ d.0 ∷ [])) d.1 × (a.0 < 2 ^ 32) × (b.0 < 2 ^ 32) × (c.0 < 2 ^ 32) × (d.0 < 2 ^ 32)
 four_take bytes a b c d fits is_a is_b is_c is_d =
-    let x = word_takes bytes a fits is_a in
+    let x = word_takes Short bytes a fits is_a in
     let y = three_take a.1 b c d x.0.rest_fits is_b is_c is_d in
     (Takes-then _ _ _ _ _ x.0 y.0, x.1, y.1, y.2, y.3)
 
@@ -36,25 +37,22 @@ four_take bytes a b c d fits is_a is_b is_c is_d =
 abbrev pub with_rest : {A : Type 0} → List ℕ → A → Result (A × List ℕ) ImageErr
 with_rest rest x = Ok (x, rest)
 
--- reading a number that was written, and going on
-pub step : {A : Type 0} (n : ℕ) (rest : List ℕ) (f : ℕ × List ℕ → Result A ImageErr) → n < 2 ^ 32 → (next_word (to_le_bytes w32 n ++ rest) >>= f) ≡ f (n, rest)
-step n rest f lt = ap (λ (r : Result (ℕ × List ℕ) ImageErr). r >>= f) (word_again n rest lt)
-
+-- reading numbers that were written, and going on
 pub step3 : {A : Type 0} (a b c : ℕ) (rest : List ℕ) (f : ℕ × List ℕ → ℕ × List ℕ → ℕ × List ℕ → Result A ImageErr) → a < 2 ^ 32 → b < 2 ^ 32 → c < 2 ^ 32 →
     (next_word (words (a ∷ b ∷ c ∷ []) ++ rest) >>= λ x. next_word x.1 >>= λ y. next_word y.1 >>= λ z. f x y z) ≡ f (a, words (b ∷ c ∷ []) ++ rest) (b, words (c ∷ []) ++ rest) (c, rest)
 step3 a b c rest f la lb lc =
     let x : ℕ × List ℕ = (a, words (b ∷ c ∷ []) ++ rest) in
     let y : ℕ × List ℕ = (b, words (c ∷ []) ++ rest) in
-    step a (words (b ∷ c ∷ []) ++ rest) (λ x. next_word x.1 >>= λ y. next_word y.1 >>= λ z. f x y z) la
-    ∙ step b (words (c ∷ []) ++ rest) (λ y. next_word y.1 >>= λ z. f x y z) lb
-    ∙ step c rest (λ z. f x y z) lc
+    word_step Short a (words (b ∷ c ∷ []) ++ rest) (λ x. next_word x.1 >>= λ y. next_word y.1 >>= λ z. f x y z) la
+    ∙ word_step Short b (words (c ∷ []) ++ rest) (λ y. next_word y.1 >>= λ z. f x y z) lb
+    ∙ word_step Short c rest (λ z. f x y z) lc
 
 pub step4 : {A : Type 0} (a b c d : ℕ) (rest : List ℕ) (f : ℕ × List ℕ → ℕ × List ℕ → ℕ × List ℕ → ℕ × List ℕ → Result A ImageErr) → a < 2 ^ 32 → b < 2 ^ 32 → c < 2 ^ 32 → d < 2 ^ 32 →
     (next_word (words (a ∷ b ∷ c ∷ d ∷ []) ++ rest) >>= λ x. next_word x.1 >>= λ y. next_word y.1 >>= λ z. next_word z.1 >>= λ v. f x y z v)
     ≡ f (a, words (b ∷ c ∷ d ∷ []) ++ rest) (b, words (c ∷ d ∷ []) ++ rest) (c, words (d ∷ []) ++ rest) (d, rest)
 step4 a b c d rest f la lb lc ld =
     let x : ℕ × List ℕ = (a, words (b ∷ c ∷ d ∷ []) ++ rest) in
-    step a (words (b ∷ c ∷ d ∷ []) ++ rest) (λ x. next_word x.1 >>= λ y. next_word y.1 >>= λ z. next_word z.1 >>= λ v. f x y z v) la
+    word_step Short a (words (b ∷ c ∷ d ∷ []) ++ rest) (λ x. next_word x.1 >>= λ y. next_word y.1 >>= λ z. next_word z.1 >>= λ v. f x y z v) la
     ∙ step3 b c d rest (λ y z v. f x y z v) lb lc ld
 
 -- ---- slots

@@ -6,10 +6,11 @@ use Rattle.dist_image.specs.declared.error.ImageErr.TheVariants.{Short, Magic, V
 use Rattle.dist_image.specs.declared.error.Table.TheVariants as table
 use Rattle.dist_image.specs.declared.header.Header.{Header}
 use Rattle.dist_image.specs.Image.{most_steps}
-use Rattle.dist_image.specs.Bytes.{words}
-use Rattle.dist_image.specs.Reading.{◌>>=◌, next_word, admit_version, next_version, next_write_count, admit_header, next_header}
-use Rattle.dist_image.proofs.Words.{IsBytes, bind_ok, passed, not_false, both, ok_is, Takes, Takes-then, word_takes, word_again}
-use Rattle.dist_image.proofs.Entries.{four_take, step, step4, with_rest}
+use Rattle.word_format.specs.Bytes.{words}
+use Rattle.word_format.specs.Reading.{◌>>=◌}
+use Rattle.dist_image.specs.Reading.{next_word, admit_version, next_version, next_write_count, admit_header, next_header}
+use Rattle.word_format.proofs.Numbers.{IsBytes, bind_ok, passed, not_false, both, ok_is, Takes, Takes-then, word_takes, word_again, word_step}
+use Rattle.dist_image.proofs.Entries.{four_take, step4, with_rest}
 
 abbrev magic_number : ℕ
 magic_number = 0x5053_534D
@@ -32,8 +33,8 @@ version_takes bytes x fits e =
     let m = bind_ok (next_word bytes) _ x e in
     let v = bind_ok (next_word m.0.1) _ x m.2 in
     let k = bind_ok (admit_version m.0.0 v.0.0) _ x v.2 in
-    let tm = word_takes bytes m.0 fits m.1 in
-    let tv = word_takes m.0.1 v.0 tm.0.rest_fits v.1 in
+    let tm = word_takes Short bytes m.0 fits m.1 in
+    let tv = word_takes Short m.0.1 v.0 tm.0.rest_fits v.1 in
     let e0 = passed (not (m.0.0 == magic_number)) Magic _ k.0 k.1 in
     let e1 = passed (not (v.0.0 == 1 || v.0.0 == 2)) Version (Ok v.0.0) k.0 e0.1 in
     let is_magic : m.0.0 ≡ magic_number = eqb-true _ _ (not_false _ e0.0) in
@@ -47,9 +48,9 @@ find_version magic version = admit_version magic.0 version.0 >>= with_rest versi
 version_again : (v : ℕ) (rest : List ℕ) → IsVersion v → next_version (words (magic_number ∷ v ∷ []) ++ rest) ≡ Ok (v, rest)
 unfolding next_version
 version_again v rest (inl one) =
-    rw one (step magic_number (words (1 ∷ []) ++ rest) (λ m. next_word m.1 >>= find_version m) (omega arith) ∙ step 1 rest (find_version (magic_number, words (1 ∷ []) ++ rest)) (omega arith))
+    rw one (word_step Short magic_number (words (1 ∷ []) ++ rest) (λ m. next_word m.1 >>= find_version m) (omega arith) ∙ word_step Short 1 rest (find_version (magic_number, words (1 ∷ []) ++ rest)) (omega arith))
 version_again v rest (inr two) =
-    rw two (step magic_number (words (2 ∷ []) ++ rest) (λ m. next_word m.1 >>= find_version m) (omega arith) ∙ step 2 rest (find_version (magic_number, words (2 ∷ []) ++ rest)) (omega arith))
+    rw two (word_step Short magic_number (words (2 ∷ []) ++ rest) (λ m. next_word m.1 >>= find_version m) (omega arith) ∙ word_step Short 2 rest (find_version (magic_number, words (2 ∷ []) ++ rest)) (omega arith))
 
 -- ---- the number of writes
 
@@ -64,14 +65,14 @@ count_takes version bytes x fits e = tested (version == 1) refl e
     tested true is e =
         let same : (0, bytes) ≡ x = ok_is (0, bytes) x e in
         subst (λ (y : ℕ × List ℕ). Takes bytes (words []) y.1 × (version ≡ 1 → y.0 ≡ 0)) same (record { parts = refl; rest_fits = fits }, λ _. refl)
-    tested false is e = ((word_takes bytes x fits e).0, λ one. absurd (grind (arith, eq-eqb version 1 one, is)))
+    tested false is e = ((word_takes Short bytes x fits e).0, λ one. absurd (grind (arith, eq-eqb version 1 one, is)))
 
 count_again : (version writes : ℕ) (rest : List ℕ) → writes < 2 ^ 32 → (version ≡ 1 → writes ≡ 0) → next_write_count version (words (counted version writes) ++ rest) ≡ Ok (writes, rest)
 count_again version writes rest few plain = tested (version == 1) refl
   where
     tested : (first : Bool) → version == 1 ≡ first → cond first (Ok (0, words (cond first [] (writes ∷ [])) ++ rest)) (next_word (words (cond first [] (writes ∷ [])) ++ rest)) ≡ Ok (writes, rest)
     tested true is = ap (λ (n : ℕ). Ok (n, rest)) (sym (plain (eqb-true _ _ is)))
-    tested false is = word_again writes rest few
+    tested false is = word_again Short writes rest few
 
 -- ---- the header
 
@@ -117,7 +118,7 @@ header_takes bytes x fits whole =
     let g = bind_ok (admit_header made) _ x w.2 in
     let tv = version_takes bytes v.0 fits v.1 in
     let front = four_take v.0.1 l.0 s.0 a.0 n.0 tv.0.rest_fits l.1 s.1 a.1 n.1 in
-    let tp = word_takes n.0.1 p.0 front.0.rest_fits p.1 in
+    let tp = word_takes Short n.0.1 p.0 front.0.rest_fits p.1 in
     let tw = count_takes v.0.0 p.0.1 w.0 tp.0.rest_fits w.1 in
     let parts : Takes bytes (words (numbers made)) w.0.1 = Takes-then _ _ _ _ _ tv.0 (Takes-then _ _ _ _ _ front.0 (Takes-then _ _ _ _ _ tp.0 tw.0)) in
     let ad = header_admitted made g.0 tv.1 tw.1 g.1 in
@@ -154,6 +155,6 @@ header_again h rest fits =
     rw (long, version_again h.version front fits.version) (
     step4 {A = Header × List ℕ} h.limit h.slots h.anchors h.notes middle (λ limit slots anchors notes. next_word notes.1 >>= counting limit.0 slots.0 anchors.0 notes.0)
     (omega (arith, fits.limit, most_steps_small h.version)) (omega (arith, fits.slots)) (omega (arith, fits.anchors)) (omega (arith, fits.notes))
-    ∙ step h.assumptions back (counting h.limit h.slots h.anchors h.notes) (omega (arith, fits.assumptions))
+    ∙ word_step Short h.assumptions back (counting h.limit h.slots h.anchors h.notes) (omega (arith, fits.assumptions))
     ∙ ap (λ (r : Result (ℕ × List ℕ) ImageErr). r >>= last h.limit h.slots h.anchors h.notes h.assumptions) (count_again h.version h.writes rest (omega (arith, fits.writes)) fits.plain)
     ∙ ap (λ (r : Result Header ImageErr). r >>= with_rest rest) (admitted_again h fits))

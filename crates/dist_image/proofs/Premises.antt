@@ -8,12 +8,15 @@ use Rattle.std.proofs.lemmas.List.{nil_from_length, length-append}
 use Rattle.dist_image.specs.declared.error.ImageErr.{ImageErr}
 use Rattle.dist_image.specs.declared.entry.Head.{Head}
 use Rattle.dist_image.specs.Image.{Premise, Cut, Targets, Dead, Code, Within, Span, Same, kind_of, place_of, loads_of, targets_of, key_of, IsPremise, IsKnownAtFirst}
-use Rattle.dist_image.specs.Bytes.{words, value_of, premise_words}
-use Rattle.dist_image.specs.Reading.{◌>>=◌, next_word, is_aligned, targets_in, has_form, admit_head, next_head, premise_from, next_premise}
-use Rattle.dist_image.proofs.Words.{IsBytes, bind_ok, both, ok_is, Takes, Takes-then}
+use Rattle.word_format.specs.Bytes.{words}
+use Rattle.dist_image.specs.Bytes.{value_of, premise_words}
+use Rattle.word_format.specs.Reading.{◌>>=◌, is_aligned}
+use Rattle.dist_image.specs.Reading.{targets_err, next_word, targets_in, has_form, admit_head, next_head, premise_from, next_premise}
+use Rattle.word_format.proofs.Numbers.{IsBytes, bind_ok, both, ok_is, Takes, Takes-then}
 use Rattle.dist_image.proofs.Entries.{four_take, step4}
 use Rattle.dist_image.proofs.Counted.{IsAdmitted, admitted}
-use Rattle.dist_image.proofs.Pcs.{ArePcs, targets_take, targets_again}
+use Rattle.word_format.proofs.Sizes.{length-words}
+use Rattle.word_format.proofs.Targets.{Rise, named_take, named_again}
 
 -- ---- the four numbers
 
@@ -90,7 +93,7 @@ loads_small Within = omega arith
 loads_small Span = omega arith
 loads_small (Same at value) = omega arith
 
-of_all : (version due before left : ℕ) (h : Head) (to : List ℕ) (p : Premise) → IsAdmitted version due before left h → h.at < 2 ^ 32 → h.value < 2 ^ 32 → length to ≡ h.targets → ArePcs to → IsOf version h to p →
+of_all : (version due before left : ℕ) (h : Head) (to : List ℕ) (p : Premise) → IsAdmitted version due before left h → h.at < 2 ^ 32 → h.value < 2 ^ 32 → length to ≡ h.targets → Rise to → IsOf version h to p →
     (premise_words p ≡ h.kind ∷ h.at ∷ h.value ∷ h.targets ∷ to) × FitsPremise version (due, before) p
 of_all version due before left h to p ad wide wide_value count fit is =
     let many : length (targets_of p) ≡ h.targets = ap length is.targets ∙ count in
@@ -119,7 +122,7 @@ premise_takes version i seen bytes x fits e =
     let four = four_take bytes kind.0 at.0 value.0 targets.0 fits kind.1 at.1 value.1 targets.1 in
     let same : (made, targets.0.1) ≡ h.0 = ap (λ (k : Head). (k, targets.0.1)) ad.0 ∙ ok_is (g.0, targets.0.1) h.0 g.2 in
     let read : targets_in i made.targets targets.0.1 ≡ Ok to.0 = subst (λ (y : Head × List ℕ). targets_in i y.0.targets y.1 ≡ Ok to.0) (sym same) to.1 in
-    let t = targets_take i made.targets targets.0.1 to.0 four.0.rest_fits read in
+    let t = named_take (targets_err i) made.targets targets.0.1 to.0 four.0.rest_fits read in
     let of = of_head version kind.0.0 at.0.0 value.0.0 targets.0.0 to.0.0 (small_kind version made ad.1.form) ad.1.form t.1 in
     let p : Premise = premise_from made to.0.0 in
     let all = of_all version seen.0 seen.1 (length targets.0.1) made to.0.0 p ad.1 four.2 four.3 t.1 t.2 of in
@@ -170,10 +173,6 @@ wide_numbers Within wide = (omega arith, omega arith)
 wide_numbers Span wide = (omega arith, omega arith)
 wide_numbers (Same at value) wide = (omega arith, wide)
 
-length-words : (ns : List ℕ) → length (words ns) ≡ 4 * length ns
-length-words [] = refl
-length-words (n ∷ ns) = omega (arith, length-words ns)
-
 pub premise_again : (version i : ℕ) (seen : ℕ × ℕ) (p : Premise) (rest : List ℕ) → FitsPremise version seen p → next_premise version i seen (words (premise_words p) ++ rest) ≡ Ok (p, rest)
 unfolding next_premise next_head
 premise_again version i seen p rest fits =
@@ -190,7 +189,7 @@ premise_again version i seen p rest fits =
     let read : next_head version i seen.0 seen.1 (words (h.kind ∷ h.at ∷ h.value ∷ h.targets ∷ []) ++ left) ≡ Ok (h, left) =
     step4 h.kind h.at h.value h.targets left (λ kind at value targets. admit_head version i seen.0 seen.1 (length targets.1) (head kind.0 at.0 value.0 targets.0) >>= λ h. Ok (h, targets.1)) wide.0 fits.fits.0.1 wide.1 (omega (arith, fits.few))
     ∙ ap (λ (r : Result Head ImageErr). r >>= λ h. Ok (h, left)) ad in
-    let second : targets_in i h.targets left ≡ Ok (to, rest) = targets_again i to rest (fits.fits.2, fits.fits.3) in
+    let second : targets_in i h.targets left ≡ Ok (to, rest) = named_again (targets_err i) to rest (fits.fits.2, fits.fits.3) in
     ap (λ (r : Result (Head × List ℕ) ImageErr). r >>= λ h. targets_in i h.0.targets h.1 >>= λ to. Ok (premise_from h.0 to.0, to.1)) read
     ∙ ap (λ (r : Result (List ℕ × List ℕ) ImageErr). r >>= λ to. Ok (premise_from h to.0, to.1)) second
     ∙ ap (λ (q : Premise). Ok (q, rest)) (premise_of_head p)

@@ -9,10 +9,11 @@ use Rattle.dist_image.specs.declared.image.Slot.{Slot}
 use Rattle.dist_image.specs.declared.image.Anchor.{Anchor}
 use Rattle.dist_image.specs.declared.image.Note.{Note}
 use Rattle.dist_image.specs.Image.{Premise, IsSlot, IsAnchor, IsNote, IsPremise, IsKnownAtFirst, key_of, targets_of, target_count}
-use Rattle.dist_image.specs.Bytes.{words, slot_words, anchor_words, note_words, premise_words, table_bytes}
+use Rattle.word_format.specs.Bytes.{words}
+use Rattle.dist_image.specs.Bytes.{slot_words, anchor_words, note_words, premise_words, table_bytes}
 use Rattle.dist_image.specs.Reading.{next_slot, next_anchor, next_note, next_premise, see_premise, slots_in, anchors_in, notes_in, premises_in}
-use Rattle.dist_image.proofs.Words.{IsBytes, Takes, AllFrom, entries_take, entries_again}
-use Rattle.dist_image.proofs.Rising.{Rises, Rises-split, Rises-join, increasing_from_rises, rises_from_increasing}
+use Rattle.word_format.proofs.Numbers.{IsBytes, Takes, AllFrom, entries_take, entries_again}
+use Rattle.word_format.proofs.Rising.{Rises, Rises-split, Rises-join, increasing_from_rises, rises_from_increasing}
 use Rattle.dist_image.proofs.Entries.{slot_takes, slot_again, anchor_takes, anchor_again, note_takes, note_again}
 use Rattle.dist_image.proofs.Premises.{IsKnown, FitsPremise, premise_takes, premise_again}
 

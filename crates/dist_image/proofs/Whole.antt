@@ -6,12 +6,13 @@ use Rattle.dist_image.specs.declared.error.ImageErr.{ImageErr}
 use Rattle.dist_image.specs.declared.error.ImageErr.TheVariants.{Long, Memory}
 use Rattle.dist_image.specs.declared.header.Header.{Header}
 use Rattle.dist_image.specs.Image.{Distilled, IsSlot, IsAnchor, IsNote, IsImage}
-use Rattle.dist_image.specs.Bytes.{words, slot_words, anchor_words, note_words, premise_words, table_bytes, bytes_of}
-use Rattle.dist_image.specs.Reading.{Gives, next_header, slots_in, anchors_in, notes_in, premises_in, writes_in, image_from}
-use Rattle.dist_image.proofs.Words.{IsBytes, bind_ok, ok_is, Takes, Takes-then}
+use Rattle.word_format.specs.Bytes.{words}
+use Rattle.dist_image.specs.Bytes.{slot_words, anchor_words, note_words, premise_words, table_bytes, bytes_of}
+use Rattle.dist_image.specs.Reading.{writes_err, Gives, next_header, slots_in, anchors_in, notes_in, premises_in, writes_in, image_from}
+use Rattle.word_format.proofs.Numbers.{IsBytes, bind_ok, ok_is, Takes, Takes-then}
 use Rattle.dist_image.proofs.Headers.{HeaderFits, numbers, header_takes, header_again}
 use Rattle.dist_image.proofs.Tables.{slots_take, slots_again, anchors_take, anchors_again, notes_take, notes_again, ArePremises, premises_take, premises_again}
-use Rattle.dist_image.proofs.Pcs.{writes_take, writes_again}
+use Rattle.word_format.proofs.Targets.{named_take, named_again}
 
 -- the header that an image has
 abbrev header_of : Distilled → Header
@@ -42,7 +43,7 @@ image_takes bytes image fits e =
     let ta = anchors_take h.0.0.slots h.0.0.anchors s.0.1 a.0 ts.0.rest_fits a.1 in
     let tn = notes_take h.0.0.slots h.0.0.notes a.0.1 n.0 ta.0.rest_fits n.1 in
     let tp = premises_take h.0.0.version h.0.0.assumptions n.0.1 p.0 tn.0.rest_fits p.1 in
-    let tw = writes_take h.0.0.writes p.0.1 w.0 tp.0.rest_fits w.1 in
+    let tw = named_take writes_err h.0.0.writes p.0.1 w.0 tp.0.rest_fits w.1 in
     let same : h.0.0 ≡ header_of made = counts h.0.0 _ _ _ _ _ ts.1 ta.1 tn.1 tp.1 tw.1 in
     let tables : List ℕ = table_bytes slot_words s.0.0 ++ (table_bytes anchor_words a.0.0 ++ (table_bytes note_words n.0.0 ++ (table_bytes premise_words p.0.0 ++ words w.0.0))) in
     let all : Takes bytes (words (numbers h.0.0) ++ tables) w.0.1 = Takes-then _ _ _ _ _ th.0 (Takes-then _ _ _ _ _ ts.0 (Takes-then _ _ _ _ _ ta.0 (Takes-then _ _ _ _ _ tn.0 (Takes-then _ _ _ _ _ tp.0 tw.0)))) in
@@ -101,7 +102,7 @@ image_again image is =
     let ra : anchors_in h.slots h.anchors ba ≡ Ok (image.anchors, bn) = anchors_again (length image.slots) image.anchors bn (omega (arith, is.few_slots)) is.anchors is.anchors_rise in
     let rn : notes_in h.slots h.notes bn ≡ Ok (image.notes, bp) = notes_again (length image.slots) image.notes bp (omega (arith, is.few_slots)) is.notes is.notes_rise in
     let rp : premises_in h.version h.assumptions bp ≡ Ok (image.assumptions, bw) = premises_again image.version image.assumptions bw (premises_fit image is) in
-    let rest : writes_in h.writes bw ≡ Ok (image.writes, []) = ap (writes_in h.writes) (sym (append-nil bw)) ∙ writes_again image.writes [] (is.writes, is.writes_rise) in
+    let rest : writes_in h.writes bw ≡ Ok (image.writes, []) = ap (writes_in h.writes) (sym (append-nil bw)) ∙ named_again writes_err image.writes [] (is.writes, is.writes_rise) in
     rw (rh, rs, ra, rn, rp, rest) refl
 
 -- ---- what a call says

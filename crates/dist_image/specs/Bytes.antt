@@ -1,16 +1,12 @@
 -- The bytes of an image. All numbers have four bytes, the lowest first.
 use Rattle.std.specs.Prelude.{ℕ, ◌==◌, if◌then◌else◌, List, [], ◌∷◌, ◌++◌, length}
 use Rattle.std.specs.List.{flat_map}
-use Rattle.std.specs.Int.{w32, to_le_bytes}
+use Rattle.word_format.specs.Bytes.{words}
 use Rattle.dist_image.specs.declared.image.Slot.{Slot}
 use Rattle.dist_image.specs.declared.image.Slot.TheVariants.{Exec, Go, Fork}
 use Rattle.dist_image.specs.declared.image.Anchor.{Anchor}
 use Rattle.dist_image.specs.declared.image.Note.{Note}
 use Rattle.dist_image.specs.Image.{Premise, Cut, Same, Distilled, kind_of, place_of, targets_of}
-
--- numbers, one after the other
-abbrev pub words : List ℕ → List ℕ
-words numbers = flat_map (to_le_bytes w32) numbers
 
 -- The magic number is the text `MSSP`. Only from the second version on the writes are counted.
 abbrev pub header_words : Distilled → List ℕ
@@ -24,9 +20,11 @@ slot_words (Exec origin word) = 0 ∷ origin ∷ word ∷ []
 slot_words (Go target) = 1 ∷ target ∷ 0 ∷ []
 slot_words (Fork anchor) = 2 ∷ anchor ∷ 0 ∷ []
 
+-- the words of an anchor
 abbrev pub anchor_words : Anchor → List ℕ
 anchor_words a = a.pc ∷ a.slot ∷ a.count ∷ []
 
+-- the words of a note
 abbrev pub note_words : Note → List ℕ
 note_words n = n.pc ∷ n.slot ∷ n.live ∷ n.need ∷ []
 

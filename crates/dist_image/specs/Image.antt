@@ -91,6 +91,7 @@ abbrev pub loads_of : Premise → ℕ
 loads_of (Same at value) = value
 loads_of _ = 0
 
+-- an assumption speaks of a pc and of a word's value; its targets are pcs, rising
 abbrev pub IsPremise : Premise → Type 0
 IsPremise p = IsPc (place_of p) × (loads_of p < 2 ^ 32) × All IsPc (targets_of p) × IsStrictlyIncreasing (targets_of p)
 

@@ -1,7 +1,8 @@
 -- Reading an image from the front of its bytes to their end, with the first test that fails.
-use Rattle.std.specs.Prelude.{◌≡◌, ℕ, zero, suc, ◌+◌, ◌*◌, ◌%◌, ◌^◌, ◌==◌, nat_lt, nat_le, not, ◌&&◌, ◌||◌, Bool, if◌then◌else◌, ◌⊎◌, List, [], ◌∷◌, length, take, drop, Option, Some, None, Result, Ok, Err}
-use Rattle.std.specs.Int.{w32, from_le_bytes}
-use Rattle.dist_image.specs.declared.error.Table.{Table}
+use Rattle.std.specs.Prelude.{ℕ, ◌+◌, ◌*◌, ◌%◌, ◌^◌, ◌==◌, nat_lt, nat_le, not, ◌&&◌, ◌||◌, Bool, if◌then◌else◌, List, length, Option, Some, None, Result, Ok, Err}
+use Rattle.word_format.specs.declared.error.AddressErr.{AddressErr}
+use Rattle.word_format.specs.declared.error.AddressErr.TheVariants as address
+use Rattle.word_format.specs.Reading.{◌>>=◌, GivesOr, with_error, word_or, entries, is_aligned, addresses_in}
 use Rattle.dist_image.specs.declared.error.Table.TheVariants as table
 use Rattle.dist_image.specs.declared.error.ImageErr.{ImageErr}
 use Rattle.dist_image.specs.declared.error.ImageErr.TheVariants.{Short, Magic, Version, Limit, TooMany, Kind, Range, Order, Long, Memory}
@@ -13,31 +14,13 @@ use Rattle.dist_image.specs.declared.header.Header.{Header}
 use Rattle.dist_image.specs.declared.entry.Head.{Head}
 use Rattle.dist_image.specs.Image.{Premise, Cut, Targets, Dead, Code, Within, Span, Same, Distilled, key_of, targets_of, most_steps}
 
--- one step and then another, unless the first fails
-infixl 10 ◌>>=◌
-abbrev pub ◌>>=◌ : {A B : Type 0} → Result A ImageErr → (A → Result B ImageErr) → Result B ImageErr
-(Ok x) >>= f = f x
-(Err e) >>= f = Err e
-
 -- What a call returned, seen by view, is what reading gives, or it is want of memory.
 abbrev pub Gives : {X Y : Type 0} → (X → Y) → Result X ImageErr → Result Y ImageErr → Type 0
-Gives view (Ok x) read = read ≡ Ok (view x)
-Gives view (Err e) read = (e ≡ Memory) ⊎ (read ≡ Err e)
+Gives view result read = GivesOr Memory view result read
 
 -- the number in the next four bytes, and the bytes after it
 abbrev pub next_word : List ℕ → Result (ℕ × List ℕ) ImageErr
-next_word bytes = if nat_lt (length bytes) 4 then Err Short else Ok (from_le_bytes w32 (take 4 bytes), drop 4 bytes)
-
--- Entries one after the other, as many as are counted. What reads one is given its number, and what was seen of those before it.
-unfoldable pub entries : {A S : Type 0} → (ℕ → S → List ℕ → Result (A × List ℕ) ImageErr) → (S → A → S) → ℕ → ℕ → S → List ℕ → Result (List A × List ℕ) ImageErr
-entries read see zero i seen bytes = Ok ([], bytes)
-entries read see (suc n) i seen bytes = do
-  first ← read i seen bytes
-  others ← entries read see n (i + 1) (see seen first.0) first.1
-  Ok (first.0 ∷ others.0, others.1)
-
-abbrev pub is_aligned : ℕ → Bool
-is_aligned a = a % 4 == 0
+next_word bytes = word_or Short bytes
 
 -- ---- the header
 
@@ -48,6 +31,7 @@ admit_version magic version =
     else if not (version == 1 || version == 2) then Err Version
     else Ok version
 
+-- the magic number and the version, and what stands behind
 unfoldable pub next_version : List ℕ → Result (ℕ × List ℕ) ImageErr
 next_version bytes = do
   magic ← next_word bytes
@@ -70,6 +54,7 @@ admit_header h =
     else if nat_lt 524_288 h.writes then Err (TooMany table.Writes)
     else Ok h
 
+-- the header, and what stands behind
 unfoldable pub next_header : List ℕ → Result (Header × List ℕ) ImageErr
 next_header bytes = if nat_lt (length bytes) 28 then Err Short else do
   version ← next_version bytes
@@ -103,6 +88,7 @@ abbrev pub admit_slot : ℕ → ℕ → Option Slot → Result Slot ImageErr
 admit_slot anchors i None = Err (Kind table.Slots i)
 admit_slot anchors i (Some s) = if is_slot anchors s then Ok s else Err (Range table.Slots i)
 
+-- the slot of number i, and what stands behind
 unfoldable pub next_slot : ℕ → ℕ → List ℕ → Result (Slot × List ℕ) ImageErr
 next_slot anchors i bytes = do
   kind ← next_word bytes
@@ -113,12 +99,14 @@ next_slot anchors i bytes = do
 
 -- ---- anchors and notes: the pc of each is at least the one that is due, which is above the one before
 
+-- an anchor that is in range and stands behind the one before, or what it breaks
 abbrev pub admit_anchor : ℕ → ℕ → ℕ → Anchor → Result Anchor ImageErr
 admit_anchor slots i due a =
     if not (is_aligned a.pc && nat_lt a.slot slots && nat_le 1 a.count && nat_le a.count 64) then Err (Range table.Anchors i)
     else if nat_lt a.pc due then Err (Order table.Anchors i)
     else Ok a
 
+-- the anchor of number i, and what stands behind
 unfoldable pub next_anchor : ℕ → ℕ → ℕ → List ℕ → Result (Anchor × List ℕ) ImageErr
 next_anchor slots i due bytes = do
   pc ← next_word bytes
@@ -127,15 +115,18 @@ next_anchor slots i due bytes = do
   a ← admit_anchor slots i due (record { pc = pc.0; slot = slot.0; count = count.0 })
   Ok (a, count.1)
 
+-- whether a word is a mask of registers: bit 0 is clear
 abbrev pub is_mask : ℕ → Bool
 is_mask m = m % 2 == 0
 
+-- a note that is in range and stands behind the one before, or what it breaks
 abbrev pub admit_note : ℕ → ℕ → ℕ → Note → Result Note ImageErr
 admit_note slots i due n =
     if not (is_aligned n.pc && nat_lt n.slot slots && is_mask n.live && is_mask n.need) then Err (Range table.Notes i)
     else if nat_lt n.pc due then Err (Order table.Notes i)
     else Ok n
 
+-- the note of number i, and what stands behind
 unfoldable pub next_note : ℕ → ℕ → ℕ → List ℕ → Result (Note × List ℕ) ImageErr
 next_note slots i due bytes = do
   pc ← next_word bytes
@@ -147,22 +138,27 @@ next_note slots i due bytes = do
 
 -- ---- pcs that rise: the targets of an assumption, and the writes
 
--- the tests of a pc, beside the table and the number of an entry
-abbrev pub admit_pc : Table → ℕ → ℕ → ℕ → Result ℕ ImageErr
-admit_pc among i due pc =
-    if not (is_aligned pc) then Err (Range among i)
-    else if nat_lt pc due then Err (Order among i)
-    else Ok pc
+-- the error of the targets of assumption i: all of them have its number
+abbrev pub targets_err : ℕ → AddressErr → ImageErr
+targets_err i address.Short = Short
+targets_err i (address.Range j) = Range table.Targets i
+targets_err i (address.Order j) = Order table.Targets i
+targets_err i address.Memory = Memory
 
-unfoldable pub next_pc : Table → ℕ → ℕ → List ℕ → Result (ℕ × List ℕ) ImageErr
-next_pc among i due bytes = do
-  word ← next_word bytes
-  pc ← admit_pc among i due word.0
-  Ok (pc, word.1)
-
--- The targets of assumption i. All of them have its number.
+-- the targets of assumption i
 abbrev pub targets_in : ℕ → ℕ → List ℕ → Result (List ℕ × List ℕ) ImageErr
-targets_in i count bytes = entries {S = ℕ} (λ _ due rest. next_pc table.Targets i due rest) (λ _ pc. pc + 1) count 0 0 bytes
+targets_in i count bytes = with_error (targets_err i) (addresses_in count bytes)
+
+-- the error of the writes: each has its own number
+abbrev pub writes_err : AddressErr → ImageErr
+writes_err address.Short = Short
+writes_err (address.Range j) = Range table.Writes j
+writes_err (address.Order j) = Order table.Writes j
+writes_err address.Memory = Memory
+
+-- so many pcs of writes, and what stands behind
+abbrev pub writes_in : ℕ → List ℕ → Result (List ℕ × List ℕ) ImageErr
+writes_in count bytes = with_error writes_err (addresses_in count bytes)
 
 -- ---- assumptions
 
@@ -185,6 +181,7 @@ admit_head version i due before left h =
     else if nat_lt left (4 * h.targets) then Err Short
     else Ok h
 
+-- the first four words of an assumption, and what stands behind
 unfoldable pub next_head : ℕ → ℕ → ℕ → ℕ → List ℕ → Result (Head × List ℕ) ImageErr
 next_head version i due before bytes = do
   kind ← next_word bytes
@@ -212,25 +209,27 @@ next_premise version i seen bytes = do
   to ← targets_in i h.0.targets h.1
   Ok (premise_from h.0 to.0, to.1)
 
+-- what is known behind an assumption: the least key that may follow, and how many targets there were
 abbrev pub see_premise : ℕ × ℕ → Premise → ℕ × ℕ
 see_premise seen p = (key_of p + 1, seen.1 + length (targets_of p))
 
 -- ---- the tables, and the whole
 
+-- so many slots, and what stands behind
 abbrev pub slots_in : ℕ → ℕ → List ℕ → Result (List Slot × List ℕ) ImageErr
 slots_in anchors count bytes = entries {S = ℕ} (λ i _ rest. next_slot anchors i rest) (λ seen _. seen) count 0 0 bytes
 
+-- so many anchors, and what stands behind
 abbrev pub anchors_in : ℕ → ℕ → List ℕ → Result (List Anchor × List ℕ) ImageErr
 anchors_in slots count bytes = entries {S = ℕ} (next_anchor slots) (λ _ a. a.pc + 1) count 0 0 bytes
 
+-- so many notes, and what stands behind
 abbrev pub notes_in : ℕ → ℕ → List ℕ → Result (List Note × List ℕ) ImageErr
 notes_in slots count bytes = entries {S = ℕ} (next_note slots) (λ _ n. n.pc + 1) count 0 0 bytes
 
+-- so many assumptions, and what stands behind
 abbrev pub premises_in : ℕ → ℕ → List ℕ → Result (List Premise × List ℕ) ImageErr
 premises_in version count bytes = entries (next_premise version) see_premise count 0 (0, 0) bytes
-
-abbrev pub writes_in : ℕ → List ℕ → Result (List ℕ × List ℕ) ImageErr
-writes_in count bytes = entries {S = ℕ} (next_pc table.Writes) (λ _ pc. pc + 1) count 0 0 bytes
 
 -- all of the bytes
 unfoldable pub image_from : List ℕ → Result Distilled ImageErr

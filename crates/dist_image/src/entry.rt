@@ -12,6 +12,7 @@ use crate::error::{ImageErr, Table};
 use crate::header::{FIRST_VERSION, MOST, next_word};
 use crate::image::{Anchor, Assumption, Note, Slot};
 use std::alloc::Global;
+use word_format::{AddressErr, is_aligned, read_addresses};
 
 /// The greatest count of an anchor.
 const MOST_ARRIVALS: u32 = 64;
@@ -24,13 +25,6 @@ pub(crate) struct Head {
     pub value: u32,
     /// The number of its targets.
     pub targets: u32,
-}
-
-/// Whether a number is the address of an instruction.
-fn is_aligned(address: u32) -> bool
-    ensures { result ≡ spec.is_aligned address }
-{
-    address % 4 == 0
 }
 
 /// Whether a set of registers is without register 0.
@@ -288,45 +282,22 @@ fn targets_in(
 ) -> Result<(Vec<u32>, &[u8]), ImageErr>
     ensures { Gives (λ x. (x.0.items, x.1.now)) result (spec.targets_in number count bytes.now) }
 {
-    let mut targets = Vec::new(alloc);
-    let mut rest = bytes;
-    let mut due = 0;
-    for _ in 0..count {
-        let (target, after) = next_pc(Table::Targets, number, due, rest)?;
-        targets.push(target)?;
-        due = u64::from(target) + 1;
-        rest = after;
+    match read_addresses(alloc, count, bytes) {
+        Ok(targets) => Ok(targets),
+        Err(error) => Err(targets_err(number, error)),
     }
-    Ok((targets, rest))
 }
 
-/// Reads an address of an instruction, which is at least `due`. What is refused is the entry of this
-/// number among those of a table.
-#[tactic(auto, unfolding(crate::specs::Reading::next_pc))]
-pub(crate) fn next_pc(
-    among: Table,
-    number: u32,
-    due: u64,
-    bytes: &[u8],
-) -> Result<(u32, &[u8]), ImageErr>
-    ensures { Gives (λ x. (x.0, x.1.now)) result (spec.next_pc among number due bytes.now) }
+/// The error of the targets of the assumption of this number.
+fn targets_err(number: u32, error: AddressErr) -> ImageErr
+    ensures { result ≡ spec.targets_err number error }
 {
-    let (pc, rest) = next_word(bytes)?;
-    let pc = admit_pc(among, number, due, pc)?;
-    Ok((pc, rest))
-}
-
-/// Tests an address of an instruction.
-fn admit_pc(among: Table, number: u32, due: u64, pc: u32) -> Result<u32, ImageErr>
-    ensures { Gives (λ x. x) result (spec.admit_pc among number due pc) }
-{
-    if !is_aligned(pc) {
-        return Err(ImageErr::Range(among, number));
+    match error {
+        AddressErr::Short => ImageErr::Short,
+        AddressErr::Range(_) => ImageErr::Range(Table::Targets, number),
+        AddressErr::Order(_) => ImageErr::Order(Table::Targets, number),
+        AddressErr::Memory => ImageErr::Memory,
     }
-    if u64::from(pc) < due {
-        return Err(ImageErr::Order(among, number));
-    }
-    Ok(pc)
 }
 
 impl Assumption {

@@ -50,12 +50,7 @@ pub(crate) struct Header {
 pub(crate) fn next_word(bytes: &[u8]) -> Result<(u32, &[u8]), ImageErr>
     ensures { Gives (λ x. (x.0, x.1.now)) result (spec.next_word bytes.now) }
 {
-    if bytes.len() < 4 {
-        return Err(ImageErr::Short);
-    }
-    let (front, rest) = bytes.split_at(4);
-    let number = u32::from_le_bytes([front[0], front[1], front[2], front[3]]);
-    Ok((number, rest))
+    word_format::next_word(ImageErr::Short, bytes)
 }
 
 /// Reads the header at the front, and gives the bytes after it.

@@ -4,12 +4,14 @@ ghost use Rattle.std.specs.Prelude.{◌≡◌, ◌≢◌, IfOk, IfErr, MatchResu
 ghost use Rattle.dist_image.specs.Image.{Distilled, IsImage, premise};
 ghost use Rattle.dist_image.specs.Bytes.{bytes_of};
 ghost use Rattle.dist_image.specs.Reading.{Gives, slots_in, anchors_in, notes_in, premises_in, writes_in, image_from};
+ghost use Rattle.dist_image.specs.Reading as spec;
 
-use crate::entry::{next_anchor, next_assumption, next_note, next_pc, next_slot};
+use crate::entry::{next_anchor, next_assumption, next_note, next_slot};
 use crate::error::{ImageErr, Table};
 use crate::header::next_header;
 use crate::image::{Anchor, Assumption, Image, Note, Slot};
 use std::alloc::Global;
+use word_format::{AddressErr, read_addresses};
 
 /// The image that a file holds.
 ///
@@ -139,14 +141,20 @@ fn read_assumptions(
 fn read_writes(alloc: Global, count: u32, bytes: &[u8]) -> Result<(Vec<u32>, &[u8]), ImageErr>
     ensures { Gives (λ x. (x.0.items, x.1.now)) result (writes_in count bytes.now) }
 {
-    let mut writes = Vec::new(alloc);
-    let mut rest = bytes;
-    let mut due = 0;
-    for number in 0..count {
-        let (pc, after) = next_pc(Table::Writes, number, due, rest)?;
-        writes.push(pc)?;
-        due = u64::from(pc) + 1;
-        rest = after;
+    match read_addresses(alloc, count, bytes) {
+        Ok(writes) => Ok(writes),
+        Err(error) => Err(writes_err(error)),
     }
-    Ok((writes, rest))
+}
+
+/// The error of the writes.
+fn writes_err(error: AddressErr) -> ImageErr
+    ensures { result ≡ spec.writes_err error }
+{
+    match error {
+        AddressErr::Short => ImageErr::Short,
+        AddressErr::Range(number) => ImageErr::Range(Table::Writes, number),
+        AddressErr::Order(number) => ImageErr::Order(Table::Writes, number),
+        AddressErr::Memory => ImageErr::Memory,
+    }
 }

@@ -2,11 +2,13 @@
 
 ghost use Rattle.std.specs.Prelude.{◌≡◌, ◌<◌, ◌^◌, ◌++◌, length, map, IfOk, OnOk};
 ghost use Rattle.dist_image.specs.Image.{IsImage, premise, targets_of, target_count};
-ghost use Rattle.dist_image.specs.Bytes.{words, header_words, slot_words, anchor_words, note_words, premise_words, table_bytes, bytes_of};
+ghost use Rattle.word_format.specs.Bytes.{words};
+ghost use Rattle.dist_image.specs.Bytes.{header_words, slot_words, anchor_words, note_words, premise_words, table_bytes, bytes_of};
 
 use crate::header::FIRST_VERSION;
 use crate::image::{Anchor, Assumption, Image, Note, Slot};
 use std::alloc::{AllocError, Global};
+use word_format::put_words;
 
 /// The bytes of an image.
 ///
@@ -46,16 +48,6 @@ fn put_header(out: &mut Vec<u8>, i: &Image) -> Result<(), AllocError>
     )?;
     if i.version != FIRST_VERSION {
         put_words(out, &[i.writes.len() as u32])?;
-    }
-    Ok(())
-}
-
-/// Puts numbers at the end, the lowest byte of each first.
-fn put_words(out: &mut Vec<u8>, numbers: &[u32]) -> Result<(), AllocError>
-    ensures { OnOk result (out.new.items ≡ out.old.items ++ words numbers.now) }
-{
-    for number in numbers {
-        out.extend_from_slice(&number.to_le_bytes())?;
     }
     Ok(())
 }

@@ -7,7 +7,7 @@ use Rattle.std.proofs.lemmas.Bool.{eqb-true, eqb-false, cases_eq}
 use Rattle.cells.specs.Cells.{IsPc}
 use Rattle.cells.specs.Bytes.{word_of}
 use Rattle.cells.specs.Run.{State, is_over}
-use Rattle.rv_run.specs.Calls.{step}
+use Rattle.rv_semantics.specs.Calls.{step}
 use Rattle.memory.specs.declared.Memory.{Ghosts}
 use Rattle.seq_machine.specs.declared.machine.Machine.{Machine}
 use Rattle.seq_machine.specs.States.{state_of, arch_at as arch_in}

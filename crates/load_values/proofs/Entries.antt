@@ -1,18 +1,15 @@
 -- The header and a row: what is read is what was written, and what was written is read again.
-use Rattle.std.proofs.Common.{◌≡◌, ℕ, ◌%◌, ◌^◌, ◌<◌, ◌≤◌, ◌==◌, true, false, not, ltb, List, [], ◌∷◌, ◌++◌, length, Result, Ok, refl, ap, subst, ◌∙◌, arith}
-use Rattle.std.specs.Int.{w32, to_le_bytes}
+use Rattle.std.proofs.Common.{◌≡◌, ℕ, ◌%◌, ◌≤◌, ◌==◌, true, false, not, ltb, List, [], ◌∷◌, ◌++◌, length, Result, Ok, refl, ap, subst, ◌∙◌, arith}
 use Rattle.std.proofs.lemmas.Bool.{ltb-false, eqb-true, le-ltb, eq-eqb}
 use Rattle.std.proofs.lemmas.List.{length-append}
 use Rattle.load_values.specs.declared.error.ValuesErr.{ValuesErr}
 use Rattle.load_values.specs.declared.error.ValuesErr.TheVariants.{Short, Magic, Version, TooMany, Range, Order}
 use Rattle.load_values.specs.Values.{IsRow}
-use Rattle.load_values.specs.Bytes.{words, row_bytes}
-use Rattle.load_values.specs.Reading.{◌>>=◌, next_word, admit_header, next_header, has_word, is_row, admit_row, next_row}
-use Rattle.load_values.proofs.Words.{IsBytes, bind_ok, passed, not_false, both, ok_is, Takes, Takes-then, word_takes, word_again}
-
--- reading a number that was written, and going on
-step : {A : Type 0} (n : ℕ) (rest : List ℕ) (f : ℕ × List ℕ → Result A ValuesErr) → n < 2 ^ 32 → (next_word (to_le_bytes w32 n ++ rest) >>= f) ≡ f (n, rest)
-step n rest f lt = ap (λ (r : Result (ℕ × List ℕ) ValuesErr). r >>= f) (word_again n rest lt)
+use Rattle.word_format.specs.Bytes.{words}
+use Rattle.load_values.specs.Bytes.{row_bytes}
+use Rattle.word_format.specs.Reading.{◌>>=◌, is_aligned}
+use Rattle.load_values.specs.Reading.{next_word, admit_header, next_header, has_word, is_row, admit_row, next_row}
+use Rattle.word_format.proofs.Numbers.{IsBytes, bind_ok, passed, not_false, both, ok_is, Takes, Takes-then, word_takes, word_step}
 
 -- ---- the header
 
@@ -32,9 +29,9 @@ header_takes bytes x fits whole =
     let r = bind_ok (next_word v.0.1) _ x v.2 in
     let g = bind_ok (admit_header m.0.0 v.0.0 r.0.0) _ x r.2 in
     let ad = header_admitted m.0.0 v.0.0 r.0.0 g.0 g.1 in
-    let a = word_takes bytes m.0 fits m.1 in
-    let b = word_takes m.0.1 v.0 a.0.rest_fits v.1 in
-    let c = word_takes v.0.1 r.0 b.0.rest_fits r.1 in
+    let a = word_takes Short bytes m.0 fits m.1 in
+    let b = word_takes Short m.0.1 v.0 a.0.rest_fits v.1 in
+    let c = word_takes Short v.0.1 r.0 b.0.rest_fits r.1 in
     let parts : Takes bytes (words (m.0.0 ∷ v.0.0 ∷ r.0.0 ∷ [])) r.0.1 = Takes-then _ _ _ _ _ a.0 (Takes-then _ _ _ _ _ b.0 c.0) in
     let named : Takes bytes (words (0x5650_534D ∷ 1 ∷ r.0.0 ∷ [])) r.0.1 = subst (λ (w : ℕ × ℕ). Takes bytes (words (w.0 ∷ w.1 ∷ r.0.0 ∷ [])) r.0.1) {x = (m.0.0, v.0.0)} {y = (0x5650_534D, 1)} (cc (ad.0, ad.1)) parts in
     subst (λ (y : ℕ × List ℕ). Takes bytes (words (0x5650_534D ∷ 1 ∷ y.0 ∷ [])) y.1 × (y.0 ≤ 524_288)) (ap (λ (n : ℕ). (n, r.0.1)) ad.3 ∙ ok_is (g.0, r.0.1) x g.2) (named, ad.2)
@@ -48,9 +45,9 @@ header_again rows rest few =
     let c : List ℕ = words (rows ∷ []) ++ rest in
     let b : List ℕ = words (1 ∷ rows ∷ []) ++ rest in
     rw long (
-    step {A = ℕ × List ℕ} 0x5650_534D b (λ magic. next_word magic.1 >>= λ version. next_word version.1 >>= λ rows. admit_header magic.0 version.0 rows.0 >>= λ count. Ok (count, rows.1)) (omega arith)
-    ∙ step {A = ℕ × List ℕ} 1 c (λ version. next_word version.1 >>= λ rows. admit_header 0x5650_534D version.0 rows.0 >>= λ count. Ok (count, rows.1)) (omega arith)
-    ∙ step {A = ℕ × List ℕ} rows rest (λ rows. admit_header 0x5650_534D 1 rows.0 >>= λ count. Ok (count, rows.1)) (omega (arith, few))
+    word_step Short {A = ℕ × List ℕ} 0x5650_534D b (λ magic. next_word magic.1 >>= λ version. next_word version.1 >>= λ rows. admit_header magic.0 version.0 rows.0 >>= λ count. Ok (count, rows.1)) (omega arith)
+    ∙ word_step Short {A = ℕ × List ℕ} 1 c (λ version. next_word version.1 >>= λ rows. admit_header 0x5650_534D version.0 rows.0 >>= λ count. Ok (count, rows.1)) (omega arith)
+    ∙ word_step Short {A = ℕ × List ℕ} rows rest (λ rows. admit_header 0x5650_534D 1 rows.0 >>= λ count. Ok (count, rows.1)) (omega (arith, few))
     ∙ ap (λ (r : Result ℕ ValuesErr). r >>= λ count. Ok (count, rest)) ad)
 
 -- ---- rows
@@ -63,7 +60,7 @@ row_admitted : (i due pc value : ℕ) (e : ℕ × ℕ) → admit_row i due pc va
 row_admitted i due pc value e whole =
     let e0 = passed (not (is_row pc value)) (Range i) _ e whole in
     let e1 = passed (ltb pc due) (Order i) (Ok (pc, value)) e e0.1 in
-    let b = both (pc % 4 == 0) (has_word value) (not_false _ e0.0) in
+    let b = both (is_aligned pc) (has_word value) (not_false _ e0.0) in
     (eqb-true _ _ b.0, b.1, ltb-false _ _ e1.0, ok_is (pc, value) e e1.1)
 
 pub row_takes : (i due : ℕ) (bytes : List ℕ) (x : (ℕ × ℕ) × List ℕ) → IsBytes bytes → next_row i due bytes ≡ Ok x → Takes bytes (row_bytes x.0) x.1 × FitsRow due x.0
@@ -73,8 +70,8 @@ row_takes i due bytes x fits whole =
     let v = bind_ok (next_word p.0.1) _ x p.2 in
     let r = bind_ok (admit_row i due p.0.0 v.0.0) _ x v.2 in
     let ad = row_admitted i due p.0.0 v.0.0 r.0 r.1 in
-    let a = word_takes bytes p.0 fits p.1 in
-    let b = word_takes p.0.1 v.0 a.0.rest_fits v.1 in
+    let a = word_takes Short bytes p.0 fits p.1 in
+    let b = word_takes Short p.0.1 v.0 a.0.rest_fits v.1 in
     let parts : Takes bytes (row_bytes (p.0.0, v.0.0)) v.0.1 = Takes-then _ _ _ _ _ a.0 b.0 in
     let is : IsRow (p.0.0, v.0.0) = record { pc = (ad.0, a.1); word = ad.1; small = b.1 } in
     subst (λ (y : (ℕ × ℕ) × List ℕ). Takes bytes (row_bytes y.0) y.1 × FitsRow due y.0) (ap (λ (e : ℕ × ℕ). (e, v.0.1)) ad.3 ∙ ok_is (r.0, v.0.1) x r.2) (parts, (ad.2, is))
@@ -86,6 +83,6 @@ row_again i due e rest fits =
     let t1 : has_word e.1 ≡ true = fits.1.word in
     let t2 : ltb e.0 due ≡ false = le-ltb _ _ fits.0 in
     let ad : admit_row i due e.0 e.1 ≡ Ok e = rw (t0, t1, t2) refl in
-    step {A = (ℕ × ℕ) × List ℕ} e.0 (words (e.1 ∷ []) ++ rest) (λ pc. next_word pc.1 >>= λ value. admit_row i due pc.0 value.0 >>= λ row. Ok (row, value.1)) fits.1.pc.1
-    ∙ step {A = (ℕ × ℕ) × List ℕ} e.1 rest (λ value. admit_row i due e.0 value.0 >>= λ row. Ok (row, value.1)) fits.1.small
+    word_step Short {A = (ℕ × ℕ) × List ℕ} e.0 (words (e.1 ∷ []) ++ rest) (λ pc. next_word pc.1 >>= λ value. admit_row i due pc.0 value.0 >>= λ row. Ok (row, value.1)) fits.1.pc.1
+    ∙ word_step Short {A = (ℕ × ℕ) × List ℕ} e.1 rest (λ value. admit_row i due e.0 value.0 >>= λ row. Ok (row, value.1)) fits.1.small
     ∙ ap (λ (r : Result (ℕ × ℕ) ValuesErr). r >>= λ row. Ok (row, rest)) ad

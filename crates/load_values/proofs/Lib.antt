@@ -1,6 +1,3 @@
-pub mod Loop
-pub mod Rising
-pub mod Words
 pub mod Entries
 pub mod Whole
 pub mod Told

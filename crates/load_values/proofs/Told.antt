@@ -7,7 +7,7 @@ use Rattle.rv_word.specs.declared.inst.Inst.TheVariants.{Lui, Auipc, Jal, Jalr, 
 use Rattle.rv_word.specs.Meaning.{meaning}
 use Rattle.cells.specs.Cells.{Arch}
 use Rattle.cells.specs.Run.{State}
-use Rattle.rv_run.specs.Machine.{word_at}
+use Rattle.rv_semantics.specs.Machine.{word_at}
 use Rattle.fitting.specs.Fails.{loads_as, program, arch_at, pc_at, fetched_at}
 use Rattle.load_values.specs.declared.sight.Sight.{Sight}
 use Rattle.load_values.specs.declared.sight.Sight.TheVariants.{Value, Executed, Hidden, Nothing}

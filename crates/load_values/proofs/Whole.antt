@@ -9,10 +9,11 @@ use Rattle.std.proofs.lemmas.List.Elements.{All-from_recursion, recursion_from_A
 use Rattle.load_values.specs.declared.error.ValuesErr.{ValuesErr}
 use Rattle.load_values.specs.declared.error.ValuesErr.TheVariants.{Long, Memory}
 use Rattle.load_values.specs.Values.{IsRow, AreValues, pc_of}
-use Rattle.load_values.specs.Bytes.{words, header_bytes, row_bytes, bytes_of}
+use Rattle.word_format.specs.Bytes.{words}
+use Rattle.load_values.specs.Bytes.{header_bytes, row_bytes, bytes_of}
 use Rattle.load_values.specs.Reading.{Gives, next_header, next_row, rows_in, values_from}
-use Rattle.load_values.proofs.Words.{IsBytes, bind_ok, ok_is, Takes, Takes-then, entries_take, entries_again}
-use Rattle.load_values.proofs.Rising.{Rises-split, Rises-join, increasing_from_rises, rises_from_increasing}
+use Rattle.word_format.proofs.Numbers.{IsBytes, bind_ok, ok_is, Takes, Takes-then, entries_take, entries_again}
+use Rattle.word_format.proofs.Rising.{Rises-split, Rises-join, increasing_from_rises, rises_from_increasing}
 use Rattle.load_values.proofs.Entries.{FitsRow, header_takes, header_again, row_takes, row_again}
 
 abbrev see_row : ℕ → ℕ × ℕ → ℕ

@@ -5,12 +5,13 @@ use Rattle.std.specs.Map.{lookup}
 use Rattle.rv_word.specs.declared.inst.Inst.{Inst}
 use Rattle.rv_word.specs.declared.inst.Inst.TheVariants.{Load}
 use Rattle.cells.specs.Run.{State}
-use Rattle.rv_run.specs.Machine.{word_at}
+use Rattle.rv_semantics.specs.Machine.{word_at}
 use Rattle.fitting.specs.Fails.{loads_as, program, arch_at, pc_at, fetched_at}
 use Rattle.profile_laws.specs.Profiles.{with_new}
 use Rattle.load_values.specs.Values.{pc_of}
 use Rattle.load_values.specs.Reading.{has_word}
 
+-- whether an instruction is a load
 abbrev pub is_load : Inst → Bool
 is_load (Load kind rd rs1 off) = true
 is_load _ = false

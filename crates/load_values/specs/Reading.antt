@@ -1,32 +1,17 @@
 -- Reading a list of values from the front of its bytes to their end, with the first test that fails.
-use Rattle.std.specs.Prelude.{◌≡◌, ℕ, zero, suc, ◌+◌, ◌%◌, ◌==◌, nat_lt, not, ◌&&◌, Bool, if◌then◌else◌, ◌⊎◌, List, [], ◌∷◌, length, take, drop, is_some, Result, Ok, Err}
-use Rattle.std.specs.Int.{w32, from_le_bytes}
+use Rattle.std.specs.Prelude.{ℕ, ◌+◌, ◌==◌, nat_lt, not, ◌&&◌, Bool, if◌then◌else◌, List, length, is_some, Result, Ok, Err}
 use Rattle.rv_word.specs.Constant.{constant_word}
+use Rattle.word_format.specs.Reading.{◌>>=◌, GivesOr, word_or, entries, is_aligned}
 use Rattle.load_values.specs.declared.error.ValuesErr.{ValuesErr}
 use Rattle.load_values.specs.declared.error.ValuesErr.TheVariants.{Short, Magic, Version, TooMany, Range, Order, Long, Memory}
 
--- one step and then another, unless the first fails
-infixl 10 ◌>>=◌
-abbrev pub ◌>>=◌ : {A B : Type 0} → Result A ValuesErr → (A → Result B ValuesErr) → Result B ValuesErr
-(Ok x) >>= f = f x
-(Err e) >>= f = Err e
-
 -- What a call returned, seen by view, is what reading gives, or it is want of memory.
 abbrev pub Gives : {X Y : Type 0} → (X → Y) → Result X ValuesErr → Result Y ValuesErr → Type 0
-Gives view (Ok x) read = read ≡ Ok (view x)
-Gives view (Err e) read = (e ≡ Memory) ⊎ (read ≡ Err e)
+Gives view result read = GivesOr Memory view result read
 
 -- the number in the next four bytes, and the bytes after it
 abbrev pub next_word : List ℕ → Result (ℕ × List ℕ) ValuesErr
-next_word bytes = if nat_lt (length bytes) 4 then Err Short else Ok (from_le_bytes w32 (take 4 bytes), drop 4 bytes)
-
--- Entries one after the other, as many as are counted. What reads one is given its number, and what was seen of those before it.
-unfoldable pub entries : {A S : Type 0} → (ℕ → S → List ℕ → Result (A × List ℕ) ValuesErr) → (S → A → S) → ℕ → ℕ → S → List ℕ → Result (List A × List ℕ) ValuesErr
-entries read see zero i seen bytes = Ok ([], bytes)
-entries read see (suc n) i seen bytes = do
-  first ← read i seen bytes
-  others ← entries read see n (i + 1) (see seen first.0) first.1
-  Ok (first.0 ∷ others.0, others.1)
+next_word bytes = word_or Short bytes
 
 -- ---- the header
 
@@ -53,8 +38,9 @@ next_header bytes = if nat_lt (length bytes) 12 then Err Short else do
 abbrev pub has_word : ℕ → Bool
 has_word value = is_some (constant_word 1 value)
 
+-- whether a pc and a value may be a row
 abbrev pub is_row : ℕ → ℕ → Bool
-is_row pc value = pc % 4 == 0 && has_word value
+is_row pc value = is_aligned pc && has_word value
 
 -- the tests of row i
 abbrev pub admit_row : ℕ → ℕ → ℕ → ℕ → Result (ℕ × ℕ) ValuesErr
@@ -63,6 +49,7 @@ admit_row i due pc value =
     else if nat_lt pc due then Err (Order i)
     else Ok (pc, value)
 
+-- the row of number i, and what stands behind
 unfoldable pub next_row : ℕ → ℕ → List ℕ → Result ((ℕ × ℕ) × List ℕ) ValuesErr
 next_row i due bytes = do
   pc ← next_word bytes
@@ -70,6 +57,7 @@ next_row i due bytes = do
   row ← admit_row i due pc.0 value.0
   Ok (row, value.1)
 
+-- so many rows, and what stands behind
 abbrev pub rows_in : ℕ → List ℕ → Result (List (ℕ × ℕ) × List ℕ) ValuesErr
 rows_in count bytes = entries {S = ℕ} next_row (λ _ e. e.0 + 1) count 0 0 bytes
 

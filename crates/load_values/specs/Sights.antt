@@ -8,9 +8,9 @@ use Rattle.rv_word.specs.Meaning.{meaning}
 use Rattle.cells.specs.Cells.{Arch, value}
 use Rattle.cells.specs.Bytes.{number}
 use Rattle.cells.specs.Run.{State}
-use Rattle.rv_run.specs.Values.{register_value}
-use Rattle.rv_run.specs.Effect.{sum32, load_size, extended}
-use Rattle.rv_run.specs.Machine.{word_at}
+use Rattle.rv_semantics.specs.Values.{register_value}
+use Rattle.rv_semantics.specs.Effect.{sum32, load_size, extended}
+use Rattle.rv_semantics.specs.Machine.{word_at}
 use Rattle.fitting.specs.Fails.{program, arch_at, pc_at}
 use Rattle.load_values.specs.declared.sight.Sight.{Sight}
 use Rattle.load_values.specs.declared.sight.Sight.TheVariants.{Value, Executed, Hidden, Nothing}
@@ -37,6 +37,7 @@ sight_by own hides i s =
 abbrev pub sight_of : ℕ → ℕ → Arch → Sight
 sight_of word own s = sight_by (nat_eq word own) (not (nat_eq word own) && is_load (meaning own)) (meaning word) s
 
+-- what is seen at position i
 abbrev pub sight_at : State → ℕ → Sight
 sight_at start i = sight_of (word_at (arch_at start i)) (program start (pc_at start i)) (arch_at start i)
 
@@ -70,6 +71,7 @@ hidden (Some Many) = Many
 hidden (Some Unseen) = Unseen
 hidden None = Unseen
 
+-- what is known of a pc once this is seen there
 abbrev pub noted : Sight → Option Found → Found
 noted (Value v) known = one_more v known
 noted Executed known = Many
@@ -98,6 +100,7 @@ newly s known = if executes s && not (is_executed known) then 1 else 0
 abbrev pub weight : Found → ℕ
 weight f = if is_executed (Some f) then 1 else 0
 
+-- at how many pcs a load was executed
 abbrev pub executed_count : List (ℕ × Found) → ℕ
 executed_count es = sum_by weight (values_of es)
 
@@ -107,10 +110,12 @@ single (One v) = if has_word v then Some v else None
 single Many = None
 single Unseen = None
 
+-- the row of a pc with one value
 abbrev pub row_of : ℕ → Option ℕ → List (ℕ × ℕ)
 row_of pc (Some v) = (pc, v) ∷ []
 row_of pc None = []
 
+-- the rows of what was found
 abbrev pub listed : List (ℕ × Found) → List (ℕ × ℕ)
 listed [] = []
 listed (e ∷ es) = row_of e.0 (single e.1) ++ listed es

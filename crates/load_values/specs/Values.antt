@@ -4,6 +4,7 @@ use Rattle.std.specs.List.Sorted.{IsStrictlyIncreasing}
 use Rattle.rv_word.specs.Constant.{constant_word}
 use Rattle.cells.specs.Cells.{IsPc}
 
+-- the pc of a row
 abbrev pub pc_of : ℕ × ℕ → ℕ
 pc_of e = e.0
 
@@ -17,6 +18,7 @@ pub record IsRow (e : ℕ × ℕ) : Type 0 where
 abbrev pub IsSmall : ℕ × ℕ → Type 0
 IsSmall e = (e.0 < 2 ^ 32) × (e.1 < 2 ^ 32)
 
+-- a list that can be written: few rows, in range, rising
 pub record AreValues (list : List (ℕ × ℕ)) : Type 0 where
   pub few : length list ≤ 524_288
   pub rows : All IsRow list

@@ -9,10 +9,5 @@ use crate::error::ValuesErr;
 pub(crate) fn next_word(bytes: &[u8]) -> Result<(u32, &[u8]), ValuesErr>
     ensures { Gives (λ x. (x.0, x.1.now)) result (spec.next_word bytes.now) }
 {
-    if bytes.len() < 4 {
-        return Err(ValuesErr::Short);
-    }
-    let (front, rest) = bytes.split_at(4);
-    let number = u32::from_le_bytes([front[0], front[1], front[2], front[3]]);
-    Ok((number, rest))
+    word_format::next_word(ValuesErr::Short, bytes)
 }

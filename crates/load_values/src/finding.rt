@@ -5,7 +5,7 @@ ghost use Rattle.std.specs.Ordering.{nat_cmp};
 ghost use Rattle.std.specs.BTreeMap.{get};
 ghost use Rattle.cells.specs.Cells.{IsPc};
 ghost use Rattle.cells.specs.Bytes.{word_of};
-ghost use Rattle.rv_run.specs.Calls.{step as next_state};
+ghost use Rattle.rv_semantics.specs.Calls.{step as next_state};
 ghost use Rattle.elf_reader.specs.Executable.{IsProgram};
 ghost use Rattle.seq_machine.specs.States.{state_of, arch_at};
 ghost use Rattle.seq_machine.specs.Parts.{start_of};

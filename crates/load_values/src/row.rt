@@ -7,6 +7,7 @@ ghost use Rattle.load_values.specs.Reading as spec;
 use crate::error::ValuesErr;
 use crate::field::next_word;
 use rv_word::constant;
+use word_format::is_aligned;
 
 /// Whether one word sets a register to the value.
 pub(crate) fn has_word(value: u32) -> bool
@@ -34,7 +35,7 @@ pub(crate) fn next_row(
 fn admit_row(number: u32, due: u64, pc: u32, value: u32) -> Result<(u32, u32), ValuesErr>
     ensures { Gives (λ x. x) result (spec.admit_row number due pc value) }
 {
-    if !(pc % 4 == 0 && has_word(value)) {
+    if !(is_aligned(pc) && has_word(value)) {
         return Err(ValuesErr::Range(number));
     }
     if u64::from(pc) < due {

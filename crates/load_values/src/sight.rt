@@ -7,7 +7,7 @@ ghost use Rattle.seq_machine.specs.States.{state_of, arch_at};
 ghost use Rattle.load_values.specs.Found as spec;
 ghost use Rattle.load_values.specs.Sights.{sight_by, sight_of};
 
-use memory_access::{number_at, register};
+use access_trace::{number_at, register};
 use rv_step::{Arch, Memory};
 use rv_word::{Inst, decode};
 use seq_machine::Machine;

@@ -3,11 +3,12 @@
 ghost use Rattle.std.specs.Prelude.{◌≡◌, ◌++◌, IfOk, OnOk, Ok};
 ghost use Rattle.std.specs.List.{flat_map};
 ghost use Rattle.load_values.specs.Values.{AreValues};
-ghost use Rattle.load_values.specs.Bytes.{words, row_bytes, bytes_of};
+ghost use Rattle.load_values.specs.Bytes.{row_bytes, bytes_of};
 ghost use Rattle.load_values.specs.Reading.{values_from};
 
 use crate::header::{MAGIC, VERSION};
 use std::alloc::{AllocError, Global};
+use word_format::put_words;
 
 /// The bytes of a list of values: addresses of loads, which rise, and the value of each.
 ///
@@ -32,16 +33,6 @@ fn put_rows(out: &mut Vec<u8>, rows: &[(u32, u32)]) -> Result<(), AllocError>
 {
     for (pc, value) in rows {
         put_words(out, &[*pc, *value])?;
-    }
-    Ok(())
-}
-
-/// Puts numbers at the end, the lowest byte of each first.
-fn put_words(out: &mut Vec<u8>, numbers: &[u32]) -> Result<(), AllocError>
-    ensures { OnOk result (out.new.items ≡ out.old.items ++ words numbers.now) }
-{
-    for number in numbers {
-        out.extend_from_slice(&number.to_le_bytes())?;
     }
     Ok(())
 }

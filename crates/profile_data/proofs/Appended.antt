@@ -4,6 +4,7 @@ use Rattle.std.specs.List.{flat_map}
 use Rattle.std.specs.Int.{from_bool}
 use Rattle.std.proofs.lemmas.List.{flat_map_more, take_more}
 use Rattle.profile_data.specs.Profile.{Tally, Profiled}
+use Rattle.word_format.specs.Bytes.{words}
 use Rattle.profile_data.specs.Bytes.{four, eight, mark, header_bytes, head_bytes, row_bytes}
 
 pub from_bool_is : (b : Bool) → from_bool b ≡ mark b
@@ -28,9 +29,9 @@ module _ (old one two three more all : List ℕ) where
       ∙ ap (λ (n : ℕ × ℕ × ℕ). old ++ (four t.pc ++ (four (n.0 + 2 * n.1) ++ (eight t.executed ++ (eight t.taken ++ four n.2))))) {x = (read, changed, targets)} {y = (mark t.read, mark t.changed, length t.targets)} (cc (r, c, n))
       ∙ ap (λ (t : Tally). old ++ head_bytes t) same
 
-pub row_put : (old head all : List ℕ) (t row : Tally) (to : List ℕ) → t ≡ row → to ≡ t.targets → head ≡ old ++ head_bytes row → all ≡ head ++ flat_map four to → all ≡ old ++ row_bytes row
+pub row_put : (old head all : List ℕ) (t row : Tally) (to : List ℕ) → t ≡ row → to ≡ t.targets → head ≡ old ++ head_bytes row → all ≡ head ++ words to → all ≡ old ++ row_bytes row
 row_put old head all t row to same is h1 h2 =
-    h2 ∙ ap (λ (x : List ℕ). x ++ flat_map four to) h1 ∙ ap (λ (ts : List ℕ). (old ++ head_bytes row) ++ flat_map four ts) (is ∙ ap (λ (t : Tally). t.targets) same) ∙ append_assoc old (head_bytes row) (flat_map four row.targets)
+    h2 ∙ ap (λ (x : List ℕ). x ++ words to) h1 ∙ ap (λ (ts : List ℕ). (old ++ head_bytes row) ++ words ts) (is ∙ ap (λ (t : Tally). t.targets) same) ∙ append_assoc old (head_bytes row) (words row.targets)
 
 -- one row more
 pub rows_put : (old so_far all : List ℕ) (rows : List Tally) (i : ℕ) (row : Tally) → i < length rows → row ≡ get_or rows i row → so_far ≡ old ++ flat_map row_bytes (take i rows) → all ≡ so_far ++ row_bytes row →

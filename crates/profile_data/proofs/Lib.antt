@@ -1,9 +1,5 @@
-pub mod Loop
-pub mod Rising
 pub mod Lookup
 pub mod Appended
-pub mod Fields
-pub mod Targets
 pub mod Rows
 pub mod Whole
 pub mod Worked

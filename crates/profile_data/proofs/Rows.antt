@@ -1,16 +1,18 @@
 -- A row that is read is the row that was written, and what was written is read again.
-use Rattle.std.proofs.Common.{◌≡◌, ℕ, zero, suc, ◌+◌, ◌*◌, ◌%◌, ◌^◌, ◌<◌, ◌≤◌, ◌==◌, Bool, true, false, not, ◌&&◌, ltb, leb, List, [], ◌∷◌, ◌++◌, length, is_some, Result, Ok, refl, sym, ap, subst, ◌∙◌, append_assoc, arith}
-use Rattle.std.specs.List.{flat_map}
+use Rattle.std.proofs.Common.{◌≡◌, ℕ, zero, suc, ◌+◌, ◌*◌, ◌%◌, ◌^◌, ◌<◌, ◌≤◌, ◌==◌, Bool, true, false, not, ◌&&◌, ltb, leb, List, ◌++◌, length, is_some, Result, Ok, refl, sym, ap, subst, ◌∙◌, append_assoc, arith}
 use Rattle.std.proofs.lemmas.Bool.{ltb-false, eqb-true, leb-true, eq-eqb, le-ltb, le-leb}
 use Rattle.std.proofs.lemmas.List.{length-append}
 use Rattle.profile_data.specs.declared.error.ProfileErr.{ProfileErr}
 use Rattle.profile_data.specs.declared.error.ProfileErr.TheVariants.{Short, Kind, Range, Twice, TooMany}
 use Rattle.profile_data.specs.declared.entry.Head.{Head}
 use Rattle.profile_data.specs.Profile.{Tally, row_at, target_count, IsTally}
+use Rattle.word_format.specs.Bytes.{words}
 use Rattle.profile_data.specs.Bytes.{four, eight, mark, flags, head_bytes, row_bytes}
-use Rattle.profile_data.specs.Reading.{◌>>=◌, next_word, next_long, is_aligned, admit_head, next_head, targets_in, tally_from, next_row}
-use Rattle.profile_data.proofs.Fields.{IsBytes, bind_ok, passed, not_false, both, ok_is, Takes, Takes-then, word_takes, long_takes, word_step, long_step}
-use Rattle.profile_data.proofs.Targets.{targets_length, targets_take, targets_again}
+use Rattle.word_format.specs.Reading.{◌>>=◌, is_aligned}
+use Rattle.profile_data.specs.Reading.{targets_err, next_word, next_long, admit_head, next_head, targets_in, tally_from, next_row}
+use Rattle.word_format.proofs.Numbers.{IsBytes, bind_ok, passed, not_false, both, ok_is, Takes, Takes-then, word_takes, long_takes, word_step, long_step}
+use Rattle.word_format.proofs.Sizes.{length-words}
+use Rattle.word_format.proofs.Targets.{named_length, named_take, named_again}
 
 -- the tests that a row has passed up to its targets
 pub record IsAdmitted (is_there : Bool) (targets left : ℕ) (h : Head) : Type 0 where
@@ -64,11 +66,11 @@ head_takes : (bytes : List ℕ) (pc flags executed taken targets : ℕ × List �
     next_word bytes ≡ Ok pc → next_word pc.1 ≡ Ok flags → next_long flags.1 ≡ Ok executed → next_long executed.1 ≡ Ok taken → next_word taken.1 ≡ Ok targets →
     Takes bytes (four pc.0 ++ (four flags.0 ++ (eight executed.0 ++ (eight taken.0 ++ four targets.0)))) targets.1 × (pc.0 < 2 ^ 32) × (executed.0 < 2 ^ 64)
 head_takes bytes pc flags executed taken targets fits is_pc is_flags is_executed is_taken is_targets =
-    let a = word_takes bytes pc fits is_pc in
-    let b = word_takes pc.1 flags a.0.rest_fits is_flags in
-    let c = long_takes flags.1 executed b.0.rest_fits is_executed in
-    let d = long_takes executed.1 taken c.0.rest_fits is_taken in
-    let e = word_takes taken.1 targets d.0.rest_fits is_targets in
+    let a = word_takes Short bytes pc fits is_pc in
+    let b = word_takes Short pc.1 flags a.0.rest_fits is_flags in
+    let c = long_takes Short flags.1 executed b.0.rest_fits is_executed in
+    let d = long_takes Short executed.1 taken c.0.rest_fits is_taken in
+    let e = word_takes Short taken.1 targets d.0.rest_fits is_targets in
     (Takes-then _ _ _ _ _ a.0 (Takes-then _ _ _ _ _ b.0 (Takes-then _ _ _ _ _ c.0 (Takes-then _ _ _ _ _ d.0 e.0))), a.1, c.1)
 
 spelled : (h : Head) (to : List ℕ) → h.flags ≤ 3 → length to ≡ h.targets →
@@ -129,20 +131,20 @@ pub row_is_new : (i : ℕ) (before : List Tally) (bytes : List ℕ) (x : Tally �
 row_is_new i before bytes x e =
     let r = row_read i before bytes x e in
     subst (λ (y : Tally × List ℕ). (is_some (row_at before y.0.pc) ≡ false) × (target_count before + length y.0.targets ≤ 1_048_576)) r.row
-    (r.tests.new, omega (arith, targets_length i r.targets.0 r.targets.1 r.to r.is_to, r.tests.few))
+    (r.tests.new, omega (arith, named_length (targets_err i) r.targets.0 r.targets.1 r.to r.is_to, r.tests.few))
 
 pub row_takes : (i : ℕ) (before : List Tally) (bytes : List ℕ) (x : Tally × List ℕ) → IsBytes bytes → next_row i before bytes ≡ Ok x → Takes bytes (row_bytes x.0) x.1 × FitsRow before x.0
 row_takes i before bytes x fits e =
     let r = row_read i before bytes x e in
     let five = head_takes bytes r.pc r.flags r.executed r.taken r.targets fits r.is_pc r.is_flags r.is_executed r.is_taken r.is_targets in
-    let count = targets_length i r.targets.0 r.targets.1 r.to r.is_to in
-    let t = targets_take i r.targets.0 r.targets.1 r.to five.0.rest_fits r.is_to in
+    let t = named_take (targets_err i) r.targets.0 r.targets.1 r.to five.0.rest_fits r.is_to in
+    let count = t.1 in
     let made : Head = head r.pc.0 r.flags.0 r.executed.0 r.taken.0 r.targets.0 in
     let row : Tally = tally_from made r.to.0 in
     let front : Takes bytes (head_bytes row) r.targets.1 = subst (λ (text : List ℕ). Takes bytes text r.targets.1) (spelled made r.to.0 r.tests.flags count) five.0 in
-    let parts : Takes bytes (row_bytes row) r.to.1 = Takes-then bytes (head_bytes row) r.targets.1 (flat_map four r.to.0) r.to.1 front t.0 in
+    let parts : Takes bytes (row_bytes row) r.to.1 = Takes-then bytes (head_bytes row) r.targets.1 (words r.to.0) r.to.1 front t.0 in
     let is : FitsRow before row = record {
-      fits = record { pc = (eqb-true _ _ r.tests.aligned, five.1); executed = r.tests.executed; taken = r.tests.taken; targets = t.1; targets_rise = t.2 };
+      fits = record { pc = (eqb-true _ _ r.tests.aligned, five.1); executed = r.tests.executed; taken = r.tests.taken; targets = t.2.0; targets_rise = t.2.1 };
       small = five.2;
       new = r.tests.new;
       few = omega (arith, count, r.tests.few);
@@ -150,10 +152,6 @@ row_takes i before bytes x fits e =
     subst (λ (y : Tally × List ℕ). Takes bytes (row_bytes y.0) y.1 × FitsRow before y.0) r.row (parts, is)
 
 -- ---- what was written
-
-length-fours : (ns : List ℕ) → length (flat_map four ns) ≡ 4 * length ns
-length-fours [] = refl
-length-fours (n ∷ ns) = omega (arith, length-fours ns)
 
 -- the numbers before a row's targets
 abbrev head_of : Tally → Head
@@ -173,19 +171,19 @@ head_step pc flags executed taken targets left f lp lf le lt ln =
     let c : List ℕ = eight taken ++ d in
     let b : List ℕ = eight executed ++ c in
     let a : List ℕ = four flags ++ b in
-    word_step pc a (λ a. next_word a.1 >>= λ b. next_long b.1 >>= λ c. next_long c.1 >>= λ d. next_word d.1 >>= λ e. f a b c d e) lp
-    ∙ word_step flags b (λ b. next_long b.1 >>= λ c. next_long c.1 >>= λ d. next_word d.1 >>= λ e. f (pc, a) b c d e) lf
-    ∙ long_step executed c (λ c. next_long c.1 >>= λ d. next_word d.1 >>= λ e. f (pc, a) (flags, b) c d e) le
-    ∙ long_step taken d (λ d. next_word d.1 >>= λ e. f (pc, a) (flags, b) (executed, c) d e) lt
-    ∙ word_step targets left (λ e. f (pc, a) (flags, b) (executed, c) (taken, d) e) ln
+    word_step Short pc a (λ a. next_word a.1 >>= λ b. next_long b.1 >>= λ c. next_long c.1 >>= λ d. next_word d.1 >>= λ e. f a b c d e) lp
+    ∙ word_step Short flags b (λ b. next_long b.1 >>= λ c. next_long c.1 >>= λ d. next_word d.1 >>= λ e. f (pc, a) b c d e) lf
+    ∙ long_step Short executed c (λ c. next_long c.1 >>= λ d. next_word d.1 >>= λ e. f (pc, a) (flags, b) c d e) le
+    ∙ long_step Short taken d (λ d. next_word d.1 >>= λ e. f (pc, a) (flags, b) (executed, c) d e) lt
+    ∙ word_step Short targets left (λ e. f (pc, a) (flags, b) (executed, c) (taken, d) e) ln
 
 pub row_again : (i : ℕ) (before : List Tally) (t : Tally) (rest : List ℕ) → FitsRow before t → next_row i before (row_bytes t ++ rest) ≡ Ok (t, rest)
 unfolding next_row next_head
 row_again i before t rest fits =
     let h : Head = head_of t in
-    let left : List ℕ = flat_map four t.targets ++ rest in
+    let left : List ℕ = words t.targets ++ rest in
     let m = marks t.read t.changed in
-    let there : ltb (length left) (4 * length t.targets) ≡ false = le-ltb _ _ (omega (arith, length-append (flat_map four t.targets) rest, length-fours t.targets)) in
+    let there : ltb (length left) (4 * length t.targets) ≡ false = le-ltb _ _ (omega (arith, length-append (words t.targets) rest, length-words t.targets)) in
     let few : ltb 1_048_576 (target_count before + length t.targets) ≡ false = le-ltb _ _ fits.few in
     let new : is_some (row_at before t.pc) ≡ false = fits.new in
     let aligned : is_aligned t.pc ≡ true = eq-eqb _ _ fits.fits.pc.0 in
@@ -198,8 +196,8 @@ row_again i before t rest fits =
     admit_head i (is_some (row_at before pc.0)) (target_count before) (length targets.1) (head pc.0 flags.0 executed.0 taken.0 targets.0) >>= λ h. Ok (h, targets.1))
     fits.fits.pc.1 (omega (arith, m.2)) fits.small (omega (arith, fits.small, fits.fits.taken)) (omega (arith, fits.few))
     ∙ ap (λ (r : Result Head ProfileErr). r >>= λ h. Ok (h, left)) ad in
-    let second : targets_in i h.targets left ≡ Ok (t.targets, rest) = targets_again i t.targets rest fits.fits.targets fits.fits.targets_rise in
-    ap (next_row i before) (append_assoc (head_bytes t) (flat_map four t.targets) rest)
+    let second : targets_in i h.targets left ≡ Ok (t.targets, rest) = named_again (targets_err i) t.targets rest (fits.fits.targets, fits.fits.targets_rise) in
+    ap (next_row i before) (append_assoc (head_bytes t) (words t.targets) rest)
     ∙ ap (λ (r : Result (Head × List ℕ) ProfileErr). r >>= λ h. targets_in i h.0.targets h.1 >>= λ to. Ok (tally_from h.0 to.0, to.1)) read
     ∙ ap (λ (r : Result (List ℕ × List ℕ) ProfileErr). r >>= λ to. Ok (tally_from h to.0, to.1)) second
     ∙ ap (λ (row : Tally). Ok (row, rest)) (tally_again t)

@@ -13,8 +13,9 @@ use Rattle.profile_data.specs.declared.error.ProfileErr.TheVariants.{Short, Magi
 use Rattle.profile_data.specs.declared.header.Header.{Header}
 use Rattle.profile_data.specs.Profile.{Tally, Profiled, pc_of, executed_of, row_at, target_count, IsTally, IsProfile}
 use Rattle.profile_data.specs.Bytes.{four, eight, mark, header_bytes, row_bytes, bytes_of}
-use Rattle.profile_data.specs.Reading.{◌>>=◌, next_word, next_long, admit_header, next_header, next_row, rows_in, profile_from}
-use Rattle.profile_data.proofs.Fields.{IsBytes, bind_ok, passed, not_false, ok_is, Takes, Takes-then, word_takes, long_takes, word_step, long_step, AllFrom, entries_length, entries_take, entries_again}
+use Rattle.word_format.specs.Reading.{◌>>=◌}
+use Rattle.profile_data.specs.Reading.{next_word, next_long, admit_header, next_header, next_row, rows_in, profile_from}
+use Rattle.word_format.proofs.Numbers.{IsBytes, bind_ok, passed, not_false, ok_is, Takes, Takes-then, word_takes, long_takes, word_step, long_step, AllFrom, entries_take, entries_again}
 use Rattle.profile_data.proofs.Rows.{FitsRow, row_takes, row_again}
 
 -- ---- the header
@@ -43,11 +44,11 @@ header_takes bytes x fits whole =
     let made : Header = record { steps = s.0.0; ended = d.0.0; rows = r.0.0 } in
     let g = bind_ok (admit_header m.0.0 v.0.0 made) _ x r.2 in
     let ad = header_admitted m.0.0 v.0.0 made g.0 g.1 in
-    let a = word_takes bytes m.0 fits m.1 in
-    let b = word_takes m.0.1 v.0 a.0.rest_fits v.1 in
-    let c = long_takes v.0.1 s.0 b.0.rest_fits s.1 in
-    let k = word_takes s.0.1 d.0 c.0.rest_fits d.1 in
-    let l = word_takes d.0.1 r.0 k.0.rest_fits r.1 in
+    let a = word_takes Short bytes m.0 fits m.1 in
+    let b = word_takes Short m.0.1 v.0 a.0.rest_fits v.1 in
+    let c = long_takes Short v.0.1 s.0 b.0.rest_fits s.1 in
+    let k = word_takes Short s.0.1 d.0 c.0.rest_fits d.1 in
+    let l = word_takes Short d.0.1 r.0 k.0.rest_fits r.1 in
     let parts : Takes bytes (text_of m.0.0 v.0.0 made) r.0.1 = Takes-then _ _ _ _ _ a.0 (Takes-then _ _ _ _ _ b.0 (Takes-then _ _ _ _ _ c.0 (Takes-then _ _ _ _ _ k.0 l.0))) in
     let named : Takes bytes (text_of 0x4650_534D 1 made) r.0.1 = subst (λ (w : ℕ × ℕ). Takes bytes (text_of w.0 w.1 made) r.0.1) {x = (m.0.0, v.0.0)} {y = (0x4650_534D, 1)} (cc (ad.0, ad.1)) parts in
     subst (λ (y : Header × List ℕ). Takes bytes (text_of 0x4650_534D 1 y.0) y.1 × (y.0.steps < 2 ^ 64) × (y.0.ended ≤ 1) × (y.0.rows ≤ 524_288)) (ap (λ (z : Header). (z, r.0.1)) ad.4 ∙ ok_is (g.0, r.0.1) x g.2) (named, c.1, ad.2, ad.3)
@@ -65,11 +66,11 @@ header_again h rest small mark few =
     let b : List ℕ = eight h.steps ++ c in
     let a : List ℕ = four 1 ++ b in
     rw long (
-    word_step {A = Header × List ℕ} 0x4650_534D a (λ magic. next_word magic.1 >>= λ version. next_long version.1 >>= λ steps. next_word steps.1 >>= λ ended. next_word ended.1 >>= λ rows. admit_header magic.0 version.0 (made steps.0 ended.0 rows.0) >>= λ g. Ok (g, rows.1)) (omega arith)
-    ∙ word_step {A = Header × List ℕ} 1 b (λ version. next_long version.1 >>= λ steps. next_word steps.1 >>= λ ended. next_word ended.1 >>= λ rows. admit_header 0x4650_534D version.0 (made steps.0 ended.0 rows.0) >>= λ g. Ok (g, rows.1)) (omega arith)
-    ∙ long_step {A = Header × List ℕ} h.steps c (λ steps. next_word steps.1 >>= λ ended. next_word ended.1 >>= λ rows. admit_header 0x4650_534D 1 (made steps.0 ended.0 rows.0) >>= λ g. Ok (g, rows.1)) small
-    ∙ word_step {A = Header × List ℕ} h.ended d (λ ended. next_word ended.1 >>= λ rows. admit_header 0x4650_534D 1 (made h.steps ended.0 rows.0) >>= λ g. Ok (g, rows.1)) (omega (arith, mark))
-    ∙ word_step {A = Header × List ℕ} h.rows rest (λ rows. admit_header 0x4650_534D 1 (made h.steps h.ended rows.0) >>= λ g. Ok (g, rows.1)) (omega (arith, few))
+    word_step Short {A = Header × List ℕ} 0x4650_534D a (λ magic. next_word magic.1 >>= λ version. next_long version.1 >>= λ steps. next_word steps.1 >>= λ ended. next_word ended.1 >>= λ rows. admit_header magic.0 version.0 (made steps.0 ended.0 rows.0) >>= λ g. Ok (g, rows.1)) (omega arith)
+    ∙ word_step Short {A = Header × List ℕ} 1 b (λ version. next_long version.1 >>= λ steps. next_word steps.1 >>= λ ended. next_word ended.1 >>= λ rows. admit_header 0x4650_534D version.0 (made steps.0 ended.0 rows.0) >>= λ g. Ok (g, rows.1)) (omega arith)
+    ∙ long_step Short {A = Header × List ℕ} h.steps c (λ steps. next_word steps.1 >>= λ ended. next_word ended.1 >>= λ rows. admit_header 0x4650_534D 1 (made steps.0 ended.0 rows.0) >>= λ g. Ok (g, rows.1)) small
+    ∙ word_step Short {A = Header × List ℕ} h.ended d (λ ended. next_word ended.1 >>= λ rows. admit_header 0x4650_534D 1 (made h.steps ended.0 rows.0) >>= λ g. Ok (g, rows.1)) (omega (arith, mark))
+    ∙ word_step Short {A = Header × List ℕ} h.rows rest (λ rows. admit_header 0x4650_534D 1 (made h.steps h.ended rows.0) >>= λ g. Ok (g, rows.1)) (omega (arith, few))
     ∙ ap (λ (r : Result Header ProfileErr). r >>= λ g. Ok (g, rest)) ad)
 
 mark_from : (n : ℕ) → n ≤ 1 → mark (n == 1) ≡ n
@@ -142,8 +143,8 @@ profile_takes bytes profile fits e =
     let e1 = passed (not (length r.0.1 == 0)) Long (Ok made) profile e0.1 in
     let th = header_takes bytes h.0 fits h.1 in
     let tr = entries_take next_row push row_bytes FitsRow row_takes h.0.0.rows 0 [] h.0.1 r.0 th.0.rest_fits r.1 in
-    let count = entries_length next_row push h.0.0.rows 0 [] h.0.1 r.0 r.1 in
-    let are = gather [] r.0.0 (IsDistinct-from_apart nat_eq [] (λ i j d lt within. absurd (omega arith))) (omega arith) tr.1 in
+    let count = tr.1 in
+    let are = gather [] r.0.0 (IsDistinct-from_apart nat_eq [] (λ i j d lt within. absurd (omega arith))) (omega arith) tr.2 in
     let nothing : r.0.1 ≡ [] = nil_from_length r.0.1 (eqb-true _ _ (not_false _ e1.0)) in
     let all = Takes-then bytes (text_of 0x4650_534D 1 h.0.0) h.0.1 (flat_map row_bytes r.0.0) r.0.1 th.0 tr.0 in
     let exact : bytes ≡ text_of 0x4650_534D 1 h.0.0 ++ flat_map row_bytes r.0.0 = all.parts ∙ ap (λ (t : List ℕ). (text_of 0x4650_534D 1 h.0.0 ++ flat_map row_bytes r.0.0) ++ t) nothing ∙ append-nil _ in

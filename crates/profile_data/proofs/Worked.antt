@@ -1,10 +1,11 @@
 -- Worked profiles and files, by computing.
 use Rattle.std.proofs.Common.{◌≡◌, ℕ, true, false, [], ◌∷◌, ◌++◌, Ok, Err, refl}
-use Rattle.std.specs.List.{flat_map}
 use Rattle.profile_data.specs.declared.error.ProfileErr.TheVariants.{Twice, Sum, Long}
 use Rattle.profile_data.specs.Profile.{Tally, Profiled}
-use Rattle.profile_data.specs.Bytes.{four, bytes_of}
-use Rattle.profile_data.specs.Reading.{entries, next_header, next_target, next_head, next_row, profile_from}
+use Rattle.profile_data.specs.Bytes.{bytes_of}
+use Rattle.word_format.specs.Bytes.{words}
+use Rattle.word_format.specs.Reading.{entries, next_address}
+use Rattle.profile_data.specs.Reading.{next_header, next_head, next_row, profile_from}
 
 -- a row that was neither read nor changed, and has no targets
 abbrev plain : ℕ → ℕ → ℕ → Tally
@@ -18,15 +19,15 @@ never_true = record { steps = 45; ended = true; rows = plain 0x10000 1 0 ∷ pla
 abbrev two_targets : Profiled
 two_targets = record { steps = 3; ended = false; rows = record { pc = 8; executed = 1; taken = 0; read = true; changed = false; targets = [] } ∷ record { pc = 4; executed = 2; taken = 0; read = false; changed = true; targets = 0 ∷ 0xFFFFFFFC ∷ [] } ∷ [] }
 
-two_targets_spelled : bytes_of two_targets ≡ flat_map four (0x4650_534D ∷ 1 ∷ 3 ∷ 0 ∷ 0 ∷ 2 ∷ 8 ∷ 1 ∷ 1 ∷ 0 ∷ 0 ∷ 0 ∷ 0 ∷ 4 ∷ 2 ∷ 2 ∷ 0 ∷ 0 ∷ 0 ∷ 2 ∷ 0 ∷ 0xFFFFFFFC ∷ [])
+two_targets_spelled : bytes_of two_targets ≡ words (0x4650_534D ∷ 1 ∷ 3 ∷ 0 ∷ 0 ∷ 2 ∷ 8 ∷ 1 ∷ 1 ∷ 0 ∷ 0 ∷ 0 ∷ 0 ∷ 4 ∷ 2 ∷ 2 ∷ 0 ∷ 0 ∷ 0 ∷ 2 ∷ 0 ∷ 0xFFFFFFFC ∷ [])
 two_targets_spelled = refl
 
 two_targets_read : profile_from (bytes_of two_targets) ≡ Ok two_targets
-unfolding profile_from next_header entries next_row next_head next_target
+unfolding profile_from next_header entries next_row next_head next_address
 two_targets_read = refl
 
 never_true_read : profile_from (bytes_of never_true) ≡ Ok never_true
-unfolding profile_from next_header entries next_row next_head next_target
+unfolding profile_from next_header entries next_row next_head next_address
 never_true_read = refl
 
 abbrev nothing : Profiled
@@ -42,14 +43,14 @@ long = refl
 
 -- a row that no step executed, and a byte after it
 sum_before_long : profile_from (bytes_of (record { steps = 0; ended = false; rows = plain 4 1 0 ∷ [] }) ++ 0 ∷ []) ≡ Err Sum
-unfolding profile_from next_header entries next_row next_head next_target
+unfolding profile_from next_header entries next_row next_head next_address
 sum_before_long = refl
 
 -- sums do not wrap
 wide_sum : profile_from (bytes_of (record { steps = 0; ended = false; rows = plain 4 0xFFFF_FFFF_FFFF_FFFF 0 ∷ plain 8 1 0 ∷ [] })) ≡ Err Sum
-unfolding profile_from next_header entries next_row next_head next_target
+unfolding profile_from next_header entries next_row next_head next_address
 wide_sum = refl
 
 twice : profile_from (bytes_of (record { steps = 2; ended = false; rows = plain 4 1 0 ∷ plain 4 1 0 ∷ [] })) ≡ Err (Twice 1)
-unfolding profile_from next_header entries next_row next_head next_target
+unfolding profile_from next_header entries next_row next_head next_address
 twice = refl

@@ -2,14 +2,18 @@
 use Rattle.std.specs.Prelude.{ℕ, ◌+◌, ◌*◌, Bool, if◌then◌else◌, List, ◌++◌, length}
 use Rattle.std.specs.List.{flat_map}
 use Rattle.std.specs.Int.{w32, w64, to_le_bytes}
+use Rattle.word_format.specs.Bytes.{words}
 use Rattle.profile_data.specs.Profile.{Tally, Profiled}
 
+-- a number in four bytes, the least first
 abbrev pub four : ℕ → List ℕ
 four n = to_le_bytes w32 n
 
+-- a number in eight bytes, the least first
 abbrev pub eight : ℕ → List ℕ
 eight n = to_le_bytes w64 n
 
+-- a mark as a number
 abbrev pub mark : Bool → ℕ
 mark b = if b then 1 else 0
 
@@ -25,8 +29,10 @@ flags t = mark t.read + 2 * mark t.changed
 abbrev pub head_bytes : Tally → List ℕ
 head_bytes t = four t.pc ++ (four (flags t) ++ (eight t.executed ++ (eight t.taken ++ four (length t.targets))))
 
+-- the bytes of a row
 abbrev pub row_bytes : Tally → List ℕ
-row_bytes t = head_bytes t ++ flat_map four t.targets
+row_bytes t = head_bytes t ++ words t.targets
 
+-- the bytes of a profile
 abbrev pub bytes_of : Profiled → List ℕ
 bytes_of profile = header_bytes profile ++ flat_map row_bytes profile.rows

@@ -1,5 +1,5 @@
 -- What a profile holds, and which profiles are valid.
-use Rattle.std.specs.Prelude.{◌≡◌, ℕ, ◌%◌, ◌^◌, ◌<◌, ◌≤◌, ◌==◌, nat_eq, Bool, List, length, map, find, Option, All}
+use Rattle.std.specs.Prelude.{◌≡◌, ℕ, ◌^◌, ◌<◌, ◌≤◌, ◌==◌, nat_eq, Bool, List, length, map, find, Option, All}
 use Rattle.std.specs.List.{sum_by, IsDistinct}
 use Rattle.std.specs.List.Sorted.{IsStrictlyIncreasing}
 use Rattle.cells.specs.Cells.{IsPc}
@@ -20,9 +20,11 @@ pub record Profiled : Type 0 where
   pub ended : Bool
   pub rows : List Tally
 
+-- the pc of a row
 abbrev pub pc_of : Tally → ℕ
 pc_of t = t.pc
 
+-- how often a row's instruction was executed
 abbrev pub executed_of : Tally → ℕ
 executed_of t = t.executed
 

@@ -1,42 +1,26 @@
 -- Reading a profile from the front of its bytes to their end, with the first test that fails.
-use Rattle.std.specs.Prelude.{◌≡◌, ℕ, zero, suc, ◌+◌, ◌*◌, ◌%◌, ◌==◌, nat_lt, nat_le, not, ◌&&◌, Bool, if◌then◌else◌, ◌⊎◌, List, [], ◌∷◌, ◌++◌, length, take, drop, is_some, Result, Ok, Err}
+use Rattle.std.specs.Prelude.{ℕ, ◌+◌, ◌*◌, ◌%◌, ◌==◌, nat_lt, nat_le, not, ◌&&◌, Bool, if◌then◌else◌, List, [], ◌∷◌, ◌++◌, length, is_some, Result, Ok, Err}
 use Rattle.std.specs.List.{sum_by}
-use Rattle.std.specs.Int.{w32, w64, from_le_bytes}
+use Rattle.word_format.specs.declared.error.AddressErr.{AddressErr}
+use Rattle.word_format.specs.declared.error.AddressErr.TheVariants as address
+use Rattle.word_format.specs.Reading.{◌>>=◌, GivesOr, with_error, word_or, long_or, entries, is_aligned, addresses_in}
 use Rattle.profile_data.specs.declared.error.ProfileErr.{ProfileErr}
 use Rattle.profile_data.specs.declared.error.ProfileErr.TheVariants.{Short, Magic, Version, Mark, TooMany, Kind, Range, Twice, Order, Sum, Long, Memory}
 use Rattle.profile_data.specs.declared.header.Header.{Header}
 use Rattle.profile_data.specs.declared.entry.Head.{Head}
 use Rattle.profile_data.specs.Profile.{Tally, Profiled, row_at, target_count, executed_of}
 
--- one step and then another, unless the first fails
-infixl 10 ◌>>=◌
-abbrev pub ◌>>=◌ : {A B : Type 0} → Result A ProfileErr → (A → Result B ProfileErr) → Result B ProfileErr
-(Ok x) >>= f = f x
-(Err e) >>= f = Err e
-
 -- What a call returned, seen by view, is what reading gives, or it is want of memory.
 abbrev pub Gives : {X Y : Type 0} → (X → Y) → Result X ProfileErr → Result Y ProfileErr → Type 0
-Gives view (Ok x) read = read ≡ Ok (view x)
-Gives view (Err e) read = (e ≡ Memory) ⊎ (read ≡ Err e)
+Gives view result read = GivesOr Memory view result read
 
 -- the number in the next four bytes, and the bytes after it
 abbrev pub next_word : List ℕ → Result (ℕ × List ℕ) ProfileErr
-next_word bytes = if nat_lt (length bytes) 4 then Err Short else Ok (from_le_bytes w32 (take 4 bytes), drop 4 bytes)
+next_word bytes = word_or Short bytes
 
 -- the number in the next eight bytes, and the bytes after it
 abbrev pub next_long : List ℕ → Result (ℕ × List ℕ) ProfileErr
-next_long bytes = if nat_lt (length bytes) 8 then Err Short else Ok (from_le_bytes w64 (take 8 bytes), drop 8 bytes)
-
--- Entries one after the other, as many as are counted. What reads one is given its number, and what was seen of those before it.
-unfoldable pub entries : {A S : Type 0} → (ℕ → S → List ℕ → Result (A × List ℕ) ProfileErr) → (S → A → S) → ℕ → ℕ → S → List ℕ → Result (List A × List ℕ) ProfileErr
-entries read see zero i seen bytes = Ok ([], bytes)
-entries read see (suc n) i seen bytes = do
-  first ← read i seen bytes
-  others ← entries read see n (i + 1) (see seen first.0) first.1
-  Ok (first.0 ∷ others.0, others.1)
-
-abbrev pub is_aligned : ℕ → Bool
-is_aligned a = a % 4 == 0
+next_long bytes = long_or Short bytes
 
 -- ---- the header
 
@@ -49,6 +33,7 @@ admit_header magic version h =
     else if nat_lt 524_288 h.rows then Err TooMany
     else Ok h
 
+-- the header, and what stands behind
 unfoldable pub next_header : List ℕ → Result (Header × List ℕ) ProfileErr
 next_header bytes = if nat_lt (length bytes) 24 then Err Short else do
   magic ← next_word bytes
@@ -59,24 +44,18 @@ next_header bytes = if nat_lt (length bytes) 24 then Err Short else do
   header ← admit_header magic.0 version.0 (record { steps = steps.0; ended = ended.0; rows = rows.0 })
   Ok (header, rows.1)
 
--- ---- targets: each is at least the one that is due, which is above the one before
+-- ---- targets, which rise
 
--- the tests of a target of row i
-abbrev pub admit_target : ℕ → ℕ → ℕ → Result ℕ ProfileErr
-admit_target i due to =
-    if not (is_aligned to) then Err (Range i)
-    else if nat_lt to due then Err (Order i)
-    else Ok to
-
-unfoldable pub next_target : ℕ → ℕ → List ℕ → Result (ℕ × List ℕ) ProfileErr
-next_target i due bytes = do
-  word ← next_word bytes
-  to ← admit_target i due word.0
-  Ok (to, word.1)
+-- the error of the targets of row i: all of them have its number
+abbrev pub targets_err : ℕ → AddressErr → ProfileErr
+targets_err i address.Short = Short
+targets_err i (address.Range j) = Range i
+targets_err i (address.Order j) = Order i
+targets_err i address.Memory = Memory
 
 -- the targets of row i
 abbrev pub targets_in : ℕ → ℕ → List ℕ → Result (List ℕ × List ℕ) ProfileErr
-targets_in i count bytes = entries {S = ℕ} (λ _ due rest. next_target i due rest) (λ _ to. to + 1) count 0 0 bytes
+targets_in i count bytes = with_error (targets_err i) (addresses_in count bytes)
 
 -- ---- rows
 
@@ -105,6 +84,7 @@ next_head i before bytes = do
 abbrev pub tally_from : Head → List ℕ → Tally
 tally_from h to = record { pc = h.pc; executed = h.executed; taken = h.taken; read = h.flags % 2 == 1; changed = nat_le 2 h.flags; targets = to }
 
+-- the row of number i, and what stands behind
 unfoldable pub next_row : ℕ → List Tally → List ℕ → Result (Tally × List ℕ) ProfileErr
 next_row i before bytes = do
   h ← next_head i before bytes

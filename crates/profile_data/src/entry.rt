@@ -15,6 +15,7 @@ use crate::field::{next_long, next_word};
 use crate::profile::Row;
 use indexmap::IndexMap;
 use std::alloc::Global;
+use word_format::{AddressErr, is_aligned, read_addresses};
 
 /// The greatest number of targets in all.
 const MOST_TARGETS: usize = 1_048_576;
@@ -29,13 +30,6 @@ pub(crate) struct Head {
     pub taken: u64,
     /// The number of its targets.
     pub targets: u32,
-}
-
-/// Whether a number is the address of an instruction.
-fn is_aligned(address: u32) -> bool
-    ensures { result ≡ spec.is_aligned address }
-{
-    address % 4 == 0
 }
 
 /// Reads a row. Those before it list so many targets in all.
@@ -149,37 +143,20 @@ fn targets_in(
 ) -> Result<(Vec<u32>, &[u8]), ProfileErr>
     ensures { Gives (λ x. (x.0.items, x.1.now)) result (spec.targets_in number count bytes.now) }
 {
-    let mut targets = Vec::new(alloc);
-    let mut rest = bytes;
-    let mut due = 0;
-    for _ in 0..count {
-        let (target, after) = next_target(number, due, rest)?;
-        targets.push(target)?;
-        due = u64::from(target) + 1;
-        rest = after;
+    match read_addresses(alloc, count, bytes) {
+        Ok(targets) => Ok(targets),
+        Err(error) => Err(targets_err(number, error)),
     }
-    Ok((targets, rest))
 }
 
-/// Reads a target, which is at least `due`.
-#[tactic(auto, unfolding(crate::specs::Reading::next_target))]
-fn next_target(number: u32, due: u64, bytes: &[u8]) -> Result<(u32, &[u8]), ProfileErr>
-    ensures { Gives (λ x. (x.0, x.1.now)) result (spec.next_target number due bytes.now) }
+/// The error of the targets of the row of this number.
+fn targets_err(number: u32, error: AddressErr) -> ProfileErr
+    ensures { result ≡ spec.targets_err number error }
 {
-    let (target, rest) = next_word(bytes)?;
-    let target = admit_target(number, due, target)?;
-    Ok((target, rest))
-}
-
-/// Tests a target.
-fn admit_target(number: u32, due: u64, target: u32) -> Result<u32, ProfileErr>
-    ensures { Gives (λ x. x) result (spec.admit_target number due target) }
-{
-    if !is_aligned(target) {
-        return Err(ProfileErr::Range(number));
+    match error {
+        AddressErr::Short => ProfileErr::Short,
+        AddressErr::Range(_) => ProfileErr::Range(number),
+        AddressErr::Order(_) => ProfileErr::Order(number),
+        AddressErr::Memory => ProfileErr::Memory,
     }
-    if u64::from(target) < due {
-        return Err(ProfileErr::Order(number));
-    }
-    Ok(target)
 }

@@ -3,12 +3,13 @@
 ghost use Rattle.std.specs.Prelude.{◌≡◌, ◌<◌, ◌≤◌, ◌^◌, ◌++◌, length, IfOk, OnOk, Ok};
 ghost use Rattle.std.specs.List.{flat_map};
 ghost use Rattle.profile_data.specs.Profile.{target_count};
-ghost use Rattle.profile_data.specs.Bytes.{four, eight, head_bytes, header_bytes, row_bytes, bytes_of};
+ghost use Rattle.profile_data.specs.Bytes.{head_bytes, header_bytes, row_bytes, bytes_of};
 ghost use Rattle.profile_data.specs.Reading.{profile_from};
 
 use crate::header::{MAGIC, VERSION};
 use crate::profile::{Profile, Row};
 use std::alloc::{AllocError, Global};
+use word_format::{put_long, put_words};
 
 /// The bytes of a profile.
 ///
@@ -30,11 +31,11 @@ pub fn write_profile(alloc: Global, p: &Profile) -> Result<Vec<u8>, AllocError>
 fn put_header(out: &mut Vec<u8>, p: &Profile) -> Result<(), AllocError>
     ensures { OnOk result (out.new.items ≡ out.old.items ++ header_bytes p.now) }
 {
-    put_word(out, MAGIC)?;
-    put_word(out, VERSION)?;
+    put_words(out, &[MAGIC])?;
+    put_words(out, &[VERSION])?;
     put_long(out, p.steps())?;
-    put_word(out, u32::from(p.ended()))?;
-    put_word(out, p.len())
+    put_words(out, &[u32::from(p.ended())])?;
+    put_words(out, &[p.len()])
 }
 
 fn put_rows(out: &mut Vec<u8>, rows: &[Row]) -> Result<(), AllocError>
@@ -52,7 +53,7 @@ fn put_row(out: &mut Vec<u8>, row: &Row) -> Result<(), AllocError>
     ensures { OnOk result (out.new.items ≡ out.old.items ++ row_bytes row.now) }
 {
     put_head(out, row)?;
-    put_targets(out, &row.targets)
+    put_words(out, &row.targets)
 }
 
 /// Puts the numbers before a row's targets.
@@ -60,32 +61,9 @@ fn put_head(out: &mut Vec<u8>, row: &Row) -> Result<(), AllocError>
     requires { length row.now.targets < 2 ^ 32 }
     ensures { OnOk result (out.new.items ≡ out.old.items ++ head_bytes row.now) }
 {
-    put_word(out, row.pc)?;
-    put_word(out, u32::from(row.read) + 2 * u32::from(row.changed))?;
+    put_words(out, &[row.pc])?;
+    put_words(out, &[u32::from(row.read) + 2 * u32::from(row.changed)])?;
     put_long(out, row.executed)?;
     put_long(out, row.taken)?;
-    put_word(out, row.targets.len() as u32)
-}
-
-fn put_targets(out: &mut Vec<u8>, targets: &[u32]) -> Result<(), AllocError>
-    ensures { OnOk result (out.new.items ≡ out.old.items ++ flat_map four targets.now) }
-{
-    for target in targets {
-        put_word(out, *target)?;
-    }
-    Ok(())
-}
-
-/// Puts a number of four bytes at the end, the lowest first.
-fn put_word(out: &mut Vec<u8>, number: u32) -> Result<(), AllocError>
-    ensures { OnOk result (out.new.items ≡ out.old.items ++ four number) }
-{
-    out.extend_from_slice(&number.to_le_bytes())
-}
-
-/// Puts a number of eight bytes at the end, the lowest first.
-fn put_long(out: &mut Vec<u8>, number: u64) -> Result<(), AllocError>
-    ensures { OnOk result (out.new.items ≡ out.old.items ++ eight number) }
-{
-    out.extend_from_slice(&number.to_le_bytes())
+    put_words(out, &[row.targets.len() as u32])
 }

@@ -1,8 +1,9 @@
 -- The anchors so far, with those that are still read, are all anchors.
 use Rattle.std.proofs.Common.{◌≡◌, ℕ, ◌+◌, ◌-◌}
 use Rattle.dist_image.specs.declared.image.Anchor.{Anchor}
-use Rattle.dist_image.specs.Reading.{entries, next_anchor, anchors_in}
-use Rattle.dist_image.proofs.Loop.{with_front}
+use Rattle.word_format.specs.Reading.{entries}
+use Rattle.dist_image.specs.Reading.{next_anchor, anchors_in}
+use Rattle.word_format.proofs.Loop.{with_front}
 use Rattle.dist_image.proofs.reading.read_anchors.Given as goal
 
 abbrev pub invariant-loop-number : goal.invariant-loop-number

@@ -5,7 +5,7 @@ use Rattle.std.proofs.lemmas.List.{map_push}
 use Rattle.dist_image.specs.Image.{premise}
 use Rattle.dist_image.specs.Reading.{next_premise, see_premise, premises_in}
 use Rattle.dist_image.proofs.Counted.{few_targets}
-use Rattle.dist_image.proofs.Loop.{goes_on, fails, is_done}
+use Rattle.word_format.proofs.Loop.{goes_on, fails, is_done}
 use Rattle.dist_image.proofs.reading.read_assumptions.Goals as goal
 
 pub returns-in_err-assumption : goal.returns-in_err-assumption

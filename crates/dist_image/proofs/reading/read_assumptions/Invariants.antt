@@ -1,8 +1,9 @@
 -- The assumptions so far, with those that are still read, are all assumptions.
 use Rattle.std.proofs.Common.{◌≡◌, ◌≤◌, ◌-◌, map}
 use Rattle.dist_image.specs.Image.{premise}
-use Rattle.dist_image.specs.Reading.{entries, next_premise, see_premise, premises_in}
-use Rattle.dist_image.proofs.Loop.{with_front}
+use Rattle.word_format.specs.Reading.{entries}
+use Rattle.dist_image.specs.Reading.{next_premise, see_premise, premises_in}
+use Rattle.word_format.proofs.Loop.{with_front}
 use Rattle.dist_image.proofs.reading.read_assumptions.Given as goal
 
 abbrev pub invariant-loop-number : goal.invariant-loop-number

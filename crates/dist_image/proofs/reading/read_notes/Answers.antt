@@ -3,7 +3,7 @@ use Rattle.std.proofs.Common.{ℕ, ◌+◌}
 use Rattle.std.proofs.lemmas.Result.{err_from_is_err_and}
 use Rattle.dist_image.specs.declared.image.Note.{Note}
 use Rattle.dist_image.specs.Reading.{next_note, notes_in}
-use Rattle.dist_image.proofs.Loop.{goes_on, fails, is_done}
+use Rattle.word_format.proofs.Loop.{goes_on, fails, is_done}
 use Rattle.dist_image.proofs.reading.read_notes.Goals as goal
 
 pub returns-in_err-note : goal.returns-in_err-note

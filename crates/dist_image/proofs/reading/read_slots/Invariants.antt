@@ -1,7 +1,8 @@
 -- The slots so far, with those that are still read, are all slots.
 use Rattle.std.proofs.Common.{◌≡◌, ℕ, ◌-◌}
-use Rattle.dist_image.specs.Reading.{entries, next_slot, slots_in}
-use Rattle.dist_image.proofs.Loop.{with_front}
+use Rattle.word_format.specs.Reading.{entries}
+use Rattle.dist_image.specs.Reading.{next_slot, slots_in}
+use Rattle.word_format.proofs.Loop.{with_front}
 use Rattle.dist_image.proofs.reading.read_slots.Given as goal
 
 abbrev pub invariant-loop-number : goal.invariant-loop-number

@@ -4,7 +4,8 @@ use Rattle.std.proofs.lemmas.List.{get_or-map, length-map, map_more, flat_map_mo
 use Rattle.std.proofs.lemmas.List.Sums.{get_or-le-sum_by}
 use Rattle.dist_image.specs.declared.image.Assumption.{Assumption}
 use Rattle.dist_image.specs.Image.{Premise, premise, targets_of, target_count}
-use Rattle.dist_image.specs.Bytes.{words, premise_words, table_bytes}
+use Rattle.word_format.specs.Bytes.{words}
+use Rattle.dist_image.specs.Bytes.{premise_words, table_bytes}
 use Rattle.dist_image.proofs.writing.put_assumptions.Goals as goal
 
 few_targets : (xs : List Assumption) (i : ℕ) (x : Assumption) → i < length xs → x ≡ get_or xs i x → target_count (map premise xs) < 2 ^ 32 → length (targets_of (premise x)) < 2 ^ 32

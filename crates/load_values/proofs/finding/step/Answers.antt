@@ -1,6 +1,6 @@
 -- What was looked at stays, and the machine takes its step.
 use Rattle.std.proofs.Common.{◌∙◌, ap}
-use Rattle.rv_run.specs.Calls.{step as next_state}
+use Rattle.rv_semantics.specs.Calls.{step as next_state}
 use Rattle.load_values.proofs.Counting.{on_any}
 use Rattle.load_values.proofs.finding.step.Goals as goal
 

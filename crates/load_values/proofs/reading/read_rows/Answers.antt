@@ -2,7 +2,7 @@
 use Rattle.std.proofs.Common.{ℕ, ◌+◌}
 use Rattle.std.proofs.lemmas.Result.{err_from_is_err_and}
 use Rattle.load_values.specs.Reading.{next_row, rows_in}
-use Rattle.load_values.proofs.Loop.{goes_on, fails, is_done}
+use Rattle.word_format.proofs.Loop.{goes_on, fails, is_done}
 use Rattle.load_values.proofs.reading.read_rows.Goals as goal
 
 pub returns-in_err-row : goal.returns-in_err-row

@@ -1,7 +1,8 @@
 -- The rows so far, with those that are still read, are all rows.
 use Rattle.std.proofs.Common.{◌≡◌, ℕ, ◌+◌, ◌-◌}
-use Rattle.load_values.specs.Reading.{entries, next_row, rows_in}
-use Rattle.load_values.proofs.Loop.{with_front}
+use Rattle.word_format.specs.Reading.{entries}
+use Rattle.load_values.specs.Reading.{next_row, rows_in}
+use Rattle.word_format.proofs.Loop.{with_front}
 use Rattle.load_values.proofs.reading.read_rows.Given as goal
 
 abbrev pub invariant-loop-number : goal.invariant-loop-number

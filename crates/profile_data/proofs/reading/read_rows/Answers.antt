@@ -4,8 +4,9 @@ use Rattle.std.proofs.lemmas.Result.{err_from_is_err_and}
 use Rattle.std.proofs.lemmas.List.Sums.{sum_by_push}
 use Rattle.indexmap.specs.IndexMap.{values}
 use Rattle.profile_data.specs.Profile.{Tally, target_count}
-use Rattle.profile_data.specs.Reading.{entries, next_row, rows_in}
-use Rattle.profile_data.proofs.Loop.{with_front, goes_on, fails, is_done}
+use Rattle.word_format.specs.Reading.{entries}
+use Rattle.profile_data.specs.Reading.{next_row, rows_in}
+use Rattle.word_format.proofs.Loop.{with_front, goes_on, fails, is_done}
 use Rattle.profile_data.proofs.Lookup.{inserted}
 use Rattle.profile_data.proofs.Rows.{row_is_new}
 use Rattle.profile_data.proofs.reading.read_rows.Goals as goal

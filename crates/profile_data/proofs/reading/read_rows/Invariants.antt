@@ -3,8 +3,9 @@ use Rattle.std.proofs.Common.{◌≡◌, ◌≤◌, ◌-◌, [], ◌∷◌, ◌+
 use Rattle.indexmap.specs.IndexMap.{values}
 use Rattle.profile_data.specs.Profile.{target_count}
 use Rattle.profile_data.specs.Keyed.{IsKeyed}
-use Rattle.profile_data.specs.Reading.{entries, next_row, rows_in}
-use Rattle.profile_data.proofs.Loop.{with_front}
+use Rattle.word_format.specs.Reading.{entries}
+use Rattle.profile_data.specs.Reading.{next_row, rows_in}
+use Rattle.word_format.proofs.Loop.{with_front}
 use Rattle.profile_data.proofs.reading.read_rows.Given as goal
 
 abbrev pub invariant-loop-number : goal.invariant-loop-number

@@ -1,9 +1,0 @@
--- The targets so far, with those that are still read, are all targets.
-use Rattle.std.proofs.Common.{◌≡◌, ℕ, ◌+◌, ◌-◌}
-use Rattle.profile_data.specs.Reading.{entries, next_target}
-use Rattle.profile_data.specs.Reading as spec
-use Rattle.profile_data.proofs.Loop.{with_front}
-use Rattle.profile_data.proofs.entry.targets_in.Given as goal
-
-abbrev pub invariant-loop : goal.invariant-loop
-invariant-loop l = with_front l.targets.items (entries {S = ℕ} (λ _ due rest. next_target l.number due rest) (λ _ to. to + 1) (l.count - l.counter) l.counter l.due l.rest) ≡ spec.targets_in l.number l.count l.bytes

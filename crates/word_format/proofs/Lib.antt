@@ -1,0 +1,5 @@
+pub mod Loop
+pub mod Rising
+pub mod Numbers
+pub mod Targets
+pub mod Sizes
