@@ -20,6 +20,7 @@ files_code = finite.code (coded_list coded_ℕ) (coded_list coded_ℕ)
 abbrev pub Entry : Type 0
 Entry = String Global × Vec ℕ Global
 
+-- a file's name and bytes
 abbrev pub entry_of : Entry → List ℕ × List ℕ
 entry_of e = (string_bytes e.0, e.1.items)
 
@@ -32,8 +33,10 @@ abbrev pub are_distinct : List (List ℕ) → Bool
 are_distinct [] = true
 are_distinct (name ∷ names) = not (list_any (bytes_eq name) names) && are_distinct names
 
+-- no two files have one name
 abbrev pub HasDistinctNames : List Entry → Type 0
 HasDistinctNames es = IsTrue (are_distinct (map (λ e. string_bytes e.0) es))
 
+-- whether an entry has this name
 abbrev pub is_named : List ℕ → Entry → Bool
 is_named name e = bytes_eq (string_bytes e.0) name

@@ -10,6 +10,7 @@ pub record Schedule : Type 0 where
   pub calls : ℕ
   pub faults : ℕ
 
+-- schedules are told apart by their numbers
 abbrev pub schedule_code : Coded Schedule
 schedule_code =
     code_by (List ℕ × (ℕ × ℕ)) (coded× (coded_list coded_ℕ) (coded× coded_ℕ coded_ℕ)) (λ s. (s.fail, (s.calls, s.faults))) (λ p. record { fail = p.0; calls = p.1.0; faults = p.1.1 }) (λ _. refl)
@@ -22,6 +23,7 @@ fresh numbers = record { fail = numbers; calls = 0; faults = 0 }
 abbrev pub is_next_listed : Schedule → Bool
 is_next_listed s = list_any (λ number. number == s.calls + 1) s.fail
 
+-- the schedule after one more call
 abbrev pub after_call : Schedule → Schedule
 after_call s = record { fail = s.fail; calls = one_more s.calls; faults = (if is_next_listed s then one_more s.faults else s.faults) }
 

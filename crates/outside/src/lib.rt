@@ -2,11 +2,12 @@
 //! bytes are put one after the other.
 //!
 //! A [`Store`] and a [`Sink`] may tell what they hold, or not, and each has a count of faults that
-//! never falls. What a call answers is tied to these alone, so that whoever works over a store or a
-//! sink can say when each of its own answers comes, whatever lies behind the trait. A count is at most
-//! 2^64 - 1. Where it stands there it can't rise, and every clause on a count that rose holds too.
+//! never falls. A store has the name of its last failed call too, where it had memory for it. What a
+//! call answers is tied to these alone, so that whoever works over a store or a sink can say when each
+//! of its own answers comes, whatever lies behind the trait. A count is at most 2^64 - 1. Where it
+//! stands there it can't rise, and every clause on a count that rose holds too.
 //!
-//! A call that answers want of memory leaves its store or sink as it was, the count too.
+//! A call that answers want of memory leaves its store or sink as it was, count and name too.
 //!
 //! The forms in memory always tell: [`SureStore`] and [`SureSink`] never fail, and [`MemStore`] and
 //! [`MemSink`] fail at the calls that a list names. A [`TornSink`] takes a part of the put that is too
@@ -64,15 +65,20 @@ pub trait Store {
     /// How often the store has failed: at most 2^64 - 1, where the count stays.
     ghost faults: { Self → ℕ };
 
+    /// The name of the call that failed last; none before the first one, nor where there was no memory
+    /// for the name.
+    ghost failed: { Self → Option (List ℕ) };
+
     /// Gives the bytes of a file of at most `limit` bytes. No file changes.
     fn read(&mut self, alloc: Global, name: &str, limit: u64) -> Result<Vec<u8>, StoreErr>
         ensures files { told self.new ≡ told self.old }
-        ensures answer { ReadAnswers (told self.old) (faults self.old) (faults self.new) name.now limit result };
+        ensures answer { ReadAnswers (told self.old) (faults self.old) (faults self.new)
+            (failed self.old) (failed self.new) name.now limit result };
 
     /// Makes these bytes the file of that name, whether or not there was one.
     fn write(&mut self, alloc: Global, name: &str, bytes: &[u8]) -> Result<(), StoreErr>
         ensures answer { WriteAnswers (told self.old) (told self.new) (faults self.old) (faults self.new)
-            name.now bytes.now result };
+            (failed self.old) (failed self.new) name.now bytes.now result };
 }
 
 /// A place to which bytes are put, one after the other.

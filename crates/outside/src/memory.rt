@@ -1,9 +1,9 @@
 // A store and a sink in memory that fail at the calls that a list names.
-ghost use Rattle.std.specs.Prelude.{◌≡◌, ◌≢◌, ◌^◌, ◌<◌, [], Some, option_copied, IfOk};
+ghost use Rattle.std.specs.Prelude.{◌≡◌, ◌≢◌, ◌^◌, ◌<◌, [], Some, None, option_copied, option_map, string_bytes, IfOk};
 ghost use Rattle.std.specs.FinMap as finite;
-ghost use Rattle.outside.specs.Answers.{PutAnswers, ReadAnswers, WriteAnswers};
+ghost use Rattle.outside.specs.Answers.{IsNamed, PutAnswers, ReadAnswers, WriteAnswers};
 ghost use Rattle.outside.specs.Files.{HasDistinctNames, files_of};
-ghost use Rattle.outside.specs.Schedule.{Follows, fresh};
+ghost use Rattle.outside.specs.Schedule.{Follows, after_call, fresh};
 ghost use Rattle.outside.specs.Seen.{SeenSink, SeenStore, sink_code, store_code};
 
 use crate::schedule::Schedule;
@@ -18,6 +18,7 @@ use std::marker::Model;
 pub struct MemStore {
     store: SureStore,
     schedule: Schedule,
+    failed: Option<String>,
 }
 
 impl Model for MemStore {
@@ -25,7 +26,7 @@ impl Model for MemStore {
 
     ghost coded = { store_code };
 
-    ghost view = { λ s. record { files = s.store; schedule = s.schedule } };
+    ghost view = { λ s. record { files = s.store; schedule = s.schedule; failed = option_map string_bytes s.failed } };
 
     ghost invariant = { λ s. s.schedule.faults < 2 ^ 64 };
 }
@@ -39,12 +40,23 @@ impl MemStore {
         fail: Vec<u64>,
     ) -> Result<MemStore, AllocError>
         requires { HasDistinctNames files.items }
-        ensures { IfOk result (λ s. s ≡ record { files = files_of files.items; schedule = fresh fail.items }) }
+        ensures { IfOk result (λ s. s ≡ record { files = files_of files.items; schedule = fresh fail.items; failed = None }) }
     {
         Ok(MemStore {
             store: SureStore::new(files),
             schedule: Schedule::new(fail),
+            failed: None,
         })
+    }
+
+    // Counts a call of that name that fails.
+    fn fail(&mut self, alloc: Global, name: &str)
+        ensures files { self.new.files ≡ self.old.files }
+        ensures counted { self.new.schedule ≡ after_call self.old.schedule }
+        ensures named { IsNamed self.new.failed name.now }
+    {
+        self.schedule.count();
+        self.failed = String::from_str(alloc, name).ok();
     }
 
     /// The bytes of the file of that name, or `None` where there is no such file.
@@ -60,14 +72,16 @@ impl Store for MemStore {
 
     ghost faults = { λ s. s.schedule.faults };
 
+    ghost failed = { λ s. s.failed };
+
     fn read(&mut self, alloc: Global, name: &str, limit: u64) -> Result<Vec<u8>, StoreErr>
         ensures files { self.new.files ≡ self.old.files }
         ensures answer { ReadAnswers (Some self.old.files) self.old.schedule.faults self.new.schedule.faults
-            name.now limit result }
+            self.old.failed self.new.failed name.now limit result }
         ensures schedule { Follows StoreErr.Failed StoreErr.Memory self.old.schedule self.new.schedule result }
     {
         if self.schedule.is_next_listed() {
-            self.schedule.count();
+            self.fail(alloc, name);
             return Err(StoreErr::Failed);
         }
         let answer = self.store.read(alloc, name, limit);
@@ -79,12 +93,13 @@ impl Store for MemStore {
 
     fn write(&mut self, alloc: Global, name: &str, bytes: &[u8]) -> Result<(), StoreErr>
         ensures answer { WriteAnswers (Some self.old.files) (Some self.new.files)
-            self.old.schedule.faults self.new.schedule.faults name.now bytes.now result }
+            self.old.schedule.faults self.new.schedule.faults self.old.failed self.new.failed
+            name.now bytes.now result }
         ensures failed { result ≡ Err StoreErr.Failed → self.new.files ≡ self.old.files }
         ensures schedule { Follows StoreErr.Failed StoreErr.Memory self.old.schedule self.new.schedule result }
     {
         if self.schedule.is_next_listed() {
-            self.schedule.count();
+            self.fail(alloc, name);
             return Err(StoreErr::Failed);
         }
         self.store.write(alloc, name, bytes)?;

@@ -1,5 +1,5 @@
 // A store and a sink in memory that never fail.
-ghost use Rattle.std.specs.Prelude.{◌≡◌, ℕ, List, [], Some, option_copied, OnOk, OnErr, position};
+ghost use Rattle.std.specs.Prelude.{◌≡◌, ℕ, List, [], Some, None, option_copied, OnOk, OnErr, position};
 ghost use Rattle.std.specs.FinMap as finite;
 ghost use Rattle.outside.specs.Files.{Files, HasDistinctNames, files_code, files_of, is_named};
 
@@ -73,6 +73,8 @@ impl Store for SureStore {
     ghost told = { λ files. Some files };
 
     ghost faults = { λ _. 0 };
+
+    ghost failed = { λ _. None };
 
     fn read(&mut self, alloc: Global, name: &str, limit: u64) -> Result<Vec<u8>, StoreErr> {
         let Some(bytes) = self.file(name) else {

@@ -11,6 +11,8 @@ returns-in_default-clause-answer c =
       absent = λ _. inl (c.args.self.now, refl, sym c.in_default.ensures);
       too_long = search rules;
       failed = search rules;
+      named = inl refl;
+      ok = search rules;
       memory = search rules;
     }
 
@@ -24,5 +26,7 @@ returns-then-bytes-limit-clause-answer c =
       absent = search rules;
       too_long = λ _. inl (c.args.self.now, c.in-Some.bytes.now, refl, sym c.in-Some.ensures, c.if-bytes-limit.true);
       failed = search rules;
+      named = inl refl;
+      ok = search rules;
       memory = search rules;
     }
