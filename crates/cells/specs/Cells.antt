@@ -9,6 +9,7 @@ pub record Arch : Type 0 where
   pub regs : ℕ → ℕ
   pub mem : ℕ → ℕ
 
+-- what a state has in a cell
 abbrev pub value : Arch → Cell → ℕ
 value s Pc = s.pc
 value s (Reg n) = s.regs n
@@ -28,6 +29,7 @@ IsCell (Byte a) = a < 2 ^ 32
 abbrev pub IsPc : ℕ → Type 0
 IsPc a = (a % 4 ≡ 0) × (a < 2 ^ 32)
 
+-- whether a cell is the pc
 abbrev pub is_pc : Cell → Bool
 is_pc Pc = true
 is_pc (Reg n) = false

@@ -14,14 +14,17 @@ pub record Env : Type 0 where
   pub brk : ℕ
   pub over : Option End
 
+-- a state of a run: registers, pc and memory, and what lies around them
 pub record State : Type 0 where
   pub arch : Arch
   pub env : Env
 
+-- whether a run has an end
 abbrev pub is_end : Option End → Bool
 is_end None = false
 is_end (Some e) = true
 
+-- whether a state's run has ended
 abbrev pub is_over : State → Bool
 is_over s = is_end s.env.over
 

@@ -14,6 +14,7 @@ pub record Seen : Type 0 where
   pub recorded : Cell → Option ℕ
   pub wrote : Cell → Bool
 
+-- what is seen of a state that is run on itself, with nothing recorded
 abbrev pub plain_seen : (Cell → ℕ) → Seen
 plain_seen v = record { recording = false; base = λ _. 0; value = v; recorded = λ _. None; wrote = λ _. false }
 
@@ -21,6 +22,7 @@ plain_seen v = record { recording = false; base = λ _. 0; value = v; recorded =
 unfoldable pub noted : (Cell → Bool) → Seen → Cell → Option ℕ
 noted these s x = cond (s.recording && (these x && not (s.wrote x))) (Some (unwrap_or (s.recorded x) (s.value x))) (s.recorded x)
 
+-- the same, with these cells recorded
 abbrev pub looked_at : (Cell → Bool) → Seen → Seen
 looked_at these s = record s { recorded = noted these s }
 
@@ -33,6 +35,7 @@ abbrev pub read_cells : List Cell → Seen → Seen
 read_cells [] s = s
 read_cells (c ∷ cs) s = read_cells cs (look c s)
 
+-- whether a cell is in a list
 abbrev pub among : List Cell → Cell → Bool
 among [] x = false
 among (c ∷ cs) x = same_cell c x || among cs x
@@ -41,9 +44,11 @@ among (c ∷ cs) x = same_cell c x || among cs x
 unfoldable pub given_values : (Cell → Option ℕ) → (Cell → ℕ) → Cell → ℕ
 given_values puts f x = unwrap_or (puts x) (f x)
 
+-- which cells count as written once these are put
 unfoldable pub marked : (Cell → Option ℕ) → Seen → Cell → Bool
 marked puts s x = (s.recording && is_some (puts x)) || s.wrote x
 
+-- what is seen once these cells are put
 abbrev pub put_all : (Cell → Option ℕ) → Seen → Seen
 put_all puts s = record s { value = given_values puts s.value; wrote = marked puts s }
 
@@ -51,6 +56,7 @@ put_all puts s = record s { value = given_values puts s.value; wrote = marked pu
 abbrev pub one : Cell → ℕ → Cell → Option ℕ
 one c v x = cond (same_cell c x) (Some v) None
 
+-- what is seen once one cell is put
 abbrev pub put_cell : Cell → ℕ → Seen → Seen
 put_cell c v s = put_all (one c v) s
 
@@ -64,6 +70,7 @@ abbrev pub or_first : Option ℕ → Option ℕ → Option ℕ
 or_first (Some v) o = Some v
 or_first None o = o
 
+-- what a list puts into a cell: the last entry for it counts
 abbrev pub puts_of : List (Cell × ℕ) → Cell → Option ℕ
 puts_of [] x = None
 puts_of (p ∷ ps) x = or_first (puts_of ps x) (one p.0 p.1 x)
@@ -72,5 +79,6 @@ puts_of (p ∷ ps) x = or_first (puts_of ps x) (one p.0 p.1 x)
 unfoldable pub task_value : Machine → Arch → ℕ → Cell → ℕ
 task_value m c t x = cond (is_pc x) c.pc (value (moves m c t) x)
 
+-- what is seen of a task that began in state c and has done t steps, r of them looked at
 abbrev pub task_seen : Machine → Arch → ℕ → ℕ → Seen
 task_seen m c t r = record { recording = true; base = value c; value = task_value m c t; recorded = recorded_values m c r; wrote = written m c t }

@@ -40,5 +40,6 @@ Matches m c t s = (x : Cell) → recorded m c t x ≡ true → value s x ≡ val
 abbrev pub applied : Machine → Arch → ℕ → Arch → Cell → ℕ
 applied m c t s x = cond (is_pc x || written m c t x) (value (moves m c t) x) (value s x)
 
+-- a state with the task's puts
 unfoldable pub apply : Machine → Arch → ℕ → Arch → Arch
 apply m c t s = from_cells (applied m c t s)

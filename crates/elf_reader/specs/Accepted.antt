@@ -17,6 +17,7 @@ segment file header = record {
 abbrev pub segments : List ℕ → List ProgramHeader → List Segment
 segments file headers = map (segment file) (filter is_load headers)
 
+-- the program of an accepted file
 unfoldable pub program_of : List ℕ → Executable
 program_of file =
     let header = file_header file in

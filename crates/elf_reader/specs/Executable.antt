@@ -8,6 +8,7 @@ pub record Segment : Type 0 where
   pub bytes : List ℕ
   pub zeros : ℕ
 
+-- a program: where it begins, its parts, and where its memory for BRK begins
 pub record Executable : Type 0 where
   pub entry : ℕ
   pub parts : List Segment

@@ -8,6 +8,7 @@ use Rattle.elf_reader.specs.declared.header.ProgramHeader.{ProgramHeader}
 abbrev pub field : ℕ → ℕ → List ℕ → ℕ
 field n offset bytes = little_number n (drop offset bytes)
 
+-- the fields of the file header
 abbrev pub file_header : List ℕ → FileHeader
 file_header file = record {
   e_type = field 2 16 file;

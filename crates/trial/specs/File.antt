@@ -17,6 +17,7 @@ front = 0x464C457F ∷ 0x00010101 ∷ 0 ∷ 0 ∷ 0x00F30002 ∷ 1 ∷ 0x0001000
 abbrev pub loads : ℕ → List ℕ
 loads size = 1 ∷ 84 ∷ 0x00010000 ∷ 0x00010000 ∷ size ∷ size ∷ 5 ∷ 4 ∷ []
 
+-- the executable of a list of words
 abbrev pub file_of : List ℕ → List ℕ
 file_of ws = bytes_of ((front ++ loads (4 * length ws)) ++ ws)
 

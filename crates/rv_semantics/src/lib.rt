@@ -7,12 +7,14 @@ ghost use Rattle.cells.specs.Cells.{Arch, value, is_pc};
 ghost use Rattle.cells.specs.Machine.{IsLocal, SameSeen};
 ghost use Rattle.cells.specs.Run.{State, is_over};
 ghost use Rattle.cells.specs.Task.{recorded};
-ghost use Rattle.rv_run.specs.Bounded.{IsAmong};
-ghost use Rattle.rv_run.specs.Machine.{machine, machine_in, exec, exec_in, flow_of};
-ghost use Rattle.rv_run.specs.Calls.{step, writes, flow_at, TaskStepsAreSteps, TaskStepsWrite};
+ghost use Rattle.rv_semantics.specs.Bounded.{IsAmong};
+ghost use Rattle.rv_semantics.specs.Machine.{machine, machine_in, exec, exec_in, flow_of};
+ghost use Rattle.rv_semantics.specs.Calls.{step, writes, flow_at, TaskStepsAreSteps, TaskStepsWrite};
 
+mod branches;
 mod calls;
 
+pub use branches::holds;
 pub use calls::{is_output, is_short_write};
 
 /// Where a run goes on after an instruction, or why the instruction alone doesn't say.

@@ -1,10 +1,10 @@
 -- Locality of the machine, and of each word.
 use Rattle.rv_word.specs.Meaning.{meaning}
-use Rattle.rv_run.specs.Prints.{nowhere}
-use Rattle.rv_run.specs.Machine.{exec, flow_of}
-use Rattle.rv_run.proofs.Local.{doing_flow, fetching_same}
-use Rattle.rv_run.proofs.Tasks.{exec_local, machine_local}
-use Rattle.rv_run.proofs.steps_are_local.Goals as goal
+use Rattle.rv_semantics.specs.Prints.{nowhere}
+use Rattle.rv_semantics.specs.Machine.{exec, flow_of}
+use Rattle.rv_semantics.proofs.Local.{doing_flow, fetching_same}
+use Rattle.rv_semantics.proofs.Tasks.{exec_local, machine_local}
+use Rattle.rv_semantics.proofs.steps_are_local.Goals as goal
 
 pub returns-clause-fetched : goal.returns-clause-fetched
 returns-clause-fetched c = machine_local

@@ -1,6 +1,6 @@
 //! What a call is asked for, by the numbers in its registers.
 ghost use Rattle.std.specs.Prelude.{◌≡◌, ◌&&◌, nat_eq, nat_le};
-ghost use Rattle.rv_run.specs.Effect.{is_output};
+ghost use Rattle.rv_semantics.specs.Effect.{is_output};
 
 /// The number of the call that writes, as Linux for RISC-V has it.
 const WRITE: u32 = 64;

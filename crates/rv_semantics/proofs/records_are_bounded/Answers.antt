@@ -1,6 +1,6 @@
 -- Step after step.
-use Rattle.rv_run.proofs.Bounded.{recorded_few, recorded_printing}
-use Rattle.rv_run.proofs.records_are_bounded.Goals as goal
+use Rattle.rv_semantics.proofs.Bounded.{recorded_few, recorded_printing}
+use Rattle.rv_semantics.proofs.records_are_bounded.Goals as goal
 
 pub returns-clause-quiet : goal.returns-clause-quiet
 returns-clause-quiet c = recorded_few

@@ -6,11 +6,12 @@ use Rattle.cells.specs.Cells.{Arch, value, from_cells}
 use Rattle.cells.specs.Bytes.{byte_cells, word_of}
 use Rattle.cells.specs.Machine.{Machine}
 use Rattle.cells.specs.Seen.{among, puts_of, given_values}
-use Rattle.rv_run.specs.declared.Flow.{Flow}
-use Rattle.rv_run.specs.declared.Flow.TheVariants.{Next}
-use Rattle.rv_run.specs.Effect.{Effect, effect_at}
-use Rattle.rv_run.specs.Prints.{nowhere, task_effect, task_cells, task_output}
+use Rattle.rv_semantics.specs.declared.Flow.{Flow}
+use Rattle.rv_semantics.specs.declared.Flow.TheVariants.{Next}
+use Rattle.rv_semantics.specs.Effect.{Effect, effect_at}
+use Rattle.rv_semantics.specs.Prints.{nowhere, task_effect, task_cells, task_output}
 
+-- whether a run simply goes on
 abbrev pub is_next : Flow → Bool
 is_next (Next t) = true
 is_next _ = false

@@ -13,10 +13,10 @@ use Rattle.cells.specs.Cells.{Arch, value, is_pc, same_cell, IsCell}
 use Rattle.cells.specs.Bytes.{byte_cells, bytes_from, number}
 use Rattle.cells.specs.Machine.{Machine, IsLocal, SameSeen}
 use Rattle.cells.specs.Seen.{among, puts_of, given_values, or_first}
-use Rattle.rv_run.specs.Values.{register_cell, register_value, bytes_of}
-use Rattle.rv_run.specs.Effect.{Effect, next, effect, effect_at, cells, first, second, load_count, load_from, is_output}
-use Rattle.rv_run.specs.Prints.{is_short_write, asks, arguments, shown, task_effect, task_cells, task_output}
-use Rattle.rv_run.specs.Machine.{doing, fetching, word_at, moved, is_next, pc_after}
+use Rattle.rv_semantics.specs.Values.{register_cell, register_value, bytes_of}
+use Rattle.rv_semantics.specs.Effect.{Effect, next, effect, effect_at, cells, first, second, load_count, load_from, is_output}
+use Rattle.rv_semantics.specs.Prints.{is_short_write, asks, arguments, shown, task_effect, task_cells, task_output}
+use Rattle.rv_semantics.specs.Machine.{doing, fetching, word_at, moved, is_next, pc_after}
 
 pub no_pc : (cs : List Cell) → among cs Pc ≡ false
 no_pc [] = refl

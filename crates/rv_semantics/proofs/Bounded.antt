@@ -17,13 +17,13 @@ use Rattle.cells.specs.Cells.{Arch, value, is_pc}
 use Rattle.cells.specs.Bytes.{byte_cells}
 use Rattle.cells.specs.Seen.{among}
 use Rattle.cells.specs.Task.{moves, written, recorded}
-use Rattle.rv_run.specs.Values.{register_cell}
-use Rattle.rv_run.specs.Effect.{cells, load_count, load_from, load_size, first}
-use Rattle.rv_run.specs.Prints.{nowhere, is_short_write, is_call, asks, arguments, shown, task_cells}
-use Rattle.rv_run.specs.Machine.{machine, machine_in, word_at}
-use Rattle.rv_run.specs.Bounded.{IsAmong}
-use Rattle.rv_run.proofs.Local.{among_append}
-use Rattle.rv_run.proofs.Tasks.{is_call_is}
+use Rattle.rv_semantics.specs.Values.{register_cell}
+use Rattle.rv_semantics.specs.Effect.{cells, load_count, load_from, load_size, first}
+use Rattle.rv_semantics.specs.Prints.{nowhere, is_short_write, is_call, asks, arguments, shown, task_cells}
+use Rattle.rv_semantics.specs.Machine.{machine, machine_in, word_at}
+use Rattle.rv_semantics.specs.Bounded.{IsAmong}
+use Rattle.rv_semantics.proofs.Local.{among_append}
+use Rattle.rv_semantics.proofs.Tasks.{is_call_is}
 
 bytes_many : (k a : ℕ) → length (byte_cells k a) ≡ k
 bytes_many zero a = refl
