@@ -56,6 +56,16 @@ pub trait Memory: Sized + Drop {
         self.word(a)
     }
 
+    /// The number that the four bytes from `a` on spell, as data: the memory may remember where they lie. Takes no
+    /// memory that could be refused.
+    #[inline(always)]
+    fn load_word(&mut self, a: u32) -> u32
+        ensures value { result ≡ number 4 a (at self.old) }
+        ensures stays { at self.new ≡ at self.old }
+    {
+        self.word(a)
+    }
+
     /// Puts at most 65,536 bytes from `a` on, all of them or, where there is no memory for them, none.
     fn put(&mut self, alloc: Global, a: u32, bytes: &[u8]) -> Result<(), AllocError>
         requires { length bytes.now ≤ 65536 }

@@ -1,3 +1,1 @@
-mod Lists
-mod Paths
-mod Trees
+mod Kept

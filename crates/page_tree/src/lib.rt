@@ -1,17 +1,13 @@
 //! A memory of a byte at each 32-bit address, whose pages its snapshots share.
 //!
-//! A leaf holds 256 bytes. Its number, the address divided by 256, is spelt in four digits of six bits, and leads
-//! through four levels of inner nodes, the highest digit first. A snapshot takes one more owner of the root, and so
-//! costs the same however much memory there is. A node that has another owner is never changed: a put makes
-//! the leaf anew, and the inner nodes on its way.
+//! Its leaves of 256 bytes lie in a tree, in front of it or aside. A snapshot takes one more owner of the root and of
+//! each leaf that stands in front or aside, and so costs the same however much memory there is.
 //!
-//! The leaves that were put to last don't lie in the tree: each stands in front of it, at a place that its number
-//! gives, and the leaf that stood there before stands aside. So most puts are done where the leaf stands.
+//! Leaves of the tree from which code or data came last have one more owner each, which gives them again without a way
+//! through the tree.
 #![tactic(auto)]
 
-mod front;
-mod leaves;
-mod path;
+mod recent;
 mod tree;
 
 pub use tree::PageTree;

@@ -1,34 +1,48 @@
-//! The memory: its leaves, and those of them from which code came.
-ghost use Rattle.std.specs.Prelude.{◌≡◌, ◌+◌, ◌*◌, ◌/◌, ◌%◌, ◌<◌, ◌≤◌, ℕ, IfOk, OnOk, OnErr, length};
+//! The memory: its leaves, and those of them from which code or data came.
+ghost use Rattle.std.specs.Prelude.{◌≡◌, ◌+◌, ◌*◌, ◌/◌, ◌%◌, ◌<◌, ◌≤◌, ℕ, Some, IfOk, OnOk, OnErr, length, slice_index};
 ghost use Rattle.std.specs.Bool.{OnTrue, OnFalse};
 ghost use Rattle.cells.specs.Bytes.{number as spelt, after_puts};
-ghost use Rattle.page_tree.specs.Trees.{held, IsKept};
+ghost use Rattle.page_leaves.specs.Trees.{held};
+ghost use Rattle.page_tree.specs.Kept.{IsKept, IsLoaded};
+ghost use Rattle.tree_node.specs.Nodes.{bytes_of};
 
-use crate::front::Front;
-use crate::leaves::Leaves;
+use crate::recent::Recent;
 use memory::Memory;
+use page_leaves::{Front, Leaves};
 use std::alloc::{AllocError, Global};
 use std::marker::Brand;
+use std::rc::Rc;
 use std::sync::ledger::{Blank, Ledger};
-use tree_node::Steps;
+use tree_node::{Node, Steps};
 
 /// A memory whose snapshots share leaves of 256 bytes and the nodes above them.
 ///
 /// A put makes at most five nodes for each leaf that holds one of its bytes, and a snapshot none.
 ///
-/// The leaves from which words of code came last are kept by one more owner each, so that code is found at once. A
-/// put to such a leaf lets that owner go first.
+/// The leaves from which words of code came last are kept by one more owner each, so that code is found at once, and so
+/// are those of the tree from which words of data came last. A put to such a leaf lets these owners go first.
 #[derive(Drop)]
 pub struct PageTree {
     leaves: Leaves,
     code: Front,
+    loaded: Recent,
     ghost kept: { IsKept code leaves },
+    ghost known: { IsLoaded loaded leaves },
+}
+
+// The word of a leaf at an address that is a multiple of 4.
+#[inline(always)]
+fn word_of(leaf: &Rc<Node>, a: u32) -> u32
+    requires { a % 4 ≡ 0 }
+    ensures { result ≡ spelt 4 (a % 256) (λ i. slice_index (bytes_of leaf.now.value) i) }
+{
+    leaf.word((a % 256) as u8)
 }
 
 impl PageTree {
-    ghost use Rattle.page_tree.specs.Trees.{leaves_of};
+    ghost use Rattle.page_leaves.specs.Trees.{leaves_of, leaf_of};
 
-    // Puts bytes where that may take memory. What is kept of code there is let go before.
+    // Puts bytes where that may take memory. What is kept of leaves there is let go before.
     #[inline(never)]
     fn put_slowly<L: Ledger>(
         &mut self,
@@ -48,12 +62,14 @@ impl PageTree {
         }
         if bytes.len() <= room {
             self.code.forget(a / 256);
+            self.loaded.forget(a / 256);
             return self.leaves.put_leaf(alloc, a, bytes, steps);
         }
         if bytes.len() <= room + 256 {
             return self.put_two(alloc, a, bytes, steps);
         }
         self.code = Front::new();
+        self.loaded = Recent::new();
         self.leaves.put_across(alloc, a, bytes, steps)
     }
 
@@ -76,6 +92,8 @@ impl PageTree {
         let next = a.wrapping_add(room);
         self.code.forget(a / 256);
         self.code.forget(next / 256);
+        self.loaded.forget(a / 256);
+        self.loaded.forget(next / 256);
         self.leaves.put_two(alloc, a, here, next, later, steps)
     }
 
@@ -86,7 +104,7 @@ impl PageTree {
         ensures written { OnTrue result (held self.new.leaves ≡ after_puts (held self.old.leaves) a bytes.now) }
         ensures refused { OnFalse result (held self.new.leaves ≡ held self.old.leaves) }
     {
-        !self.code.has(a / 256) && self.leaves.write(a, bytes)
+        !self.code.has(a / 256) && !self.loaded.has(a / 256) && self.leaves.write(a, bytes)
     }
 
     // Writes bytes that lie in one leaf, in front or aside, or in two, if nobody else has these leaves, and answers
@@ -101,7 +119,7 @@ impl PageTree {
         if end > 256 {
             return end <= 512 && self.write_over(a, bytes);
         }
-        !self.code.has(a / 256) && self.leaves.write_near(a, bytes)
+        !self.code.has(a / 256) && !self.loaded.has(a / 256) && self.leaves.write_near(a, bytes)
     }
 
     // Writes bytes that lie in two leaves, if nobody else has these leaves, and answers whether it did.
@@ -117,6 +135,8 @@ impl PageTree {
         let next = a.wrapping_add(room);
         !self.code.has(a / 256)
             && !self.code.has(next / 256)
+            && !self.loaded.has(a / 256)
+            && !self.loaded.has(next / 256)
             && self.leaves.write_both(a, here, next, later)
     }
 
@@ -155,6 +175,7 @@ impl PageTree {
         Ok(PageTree {
             leaves: self.leaves.again()?,
             code: Front::new(),
+            loaded: Recent::new(),
         })
     }
 
@@ -206,10 +227,48 @@ impl PageTree {
         }
         self.leaves.word(a)
     }
+
+    // Keeps one more owner of a leaf, from which a word is loaded.
+    fn keep(&mut self, a: u32, leaf: Rc<Node>) -> u32
+        requires even { a % 4 ≡ 0 }
+        requires leaf { leaf_of self.old.leaves (a / 256) ≡ Some leaf.value }
+        ensures value { result ≡ spelt 4 a (held self.old.leaves) }
+        ensures stays { held self.new.leaves ≡ held self.old.leaves }
+    {
+        let word = word_of(&leaf, a);
+        self.loaded.set(a / 256, leaf);
+        word
+    }
+
+    // A word of data whose leaf neither stands in front nor is kept. It is kept from now on, if the tree has it.
+    #[inline(never)]
+    fn load_elsewhere(&mut self, a: u32) -> u32
+        requires { a % 4 ≡ 0 }
+        ensures value { result ≡ spelt 4 a (held self.old.leaves) }
+        ensures stays { held self.new.leaves ≡ held self.old.leaves }
+    {
+        match self.leaves.owner_in_tree(a / 256) {
+            Some(leaf) => self.keep(a, leaf),
+            None => self.leaves.word(a),
+        }
+    }
+
+    // A word of data whose leaf doesn't stand in front.
+    #[inline(always)]
+    fn load_behind(&mut self, a: u32) -> u32
+        requires { a % 4 ≡ 0 }
+        ensures value { result ≡ spelt 4 a (held self.old.leaves) }
+        ensures stays { held self.new.leaves ≡ held self.old.leaves }
+    {
+        match self.loaded.word(a) {
+            Some(word) => word,
+            None => self.load_elsewhere(a),
+        }
+    }
 }
 
 impl Memory for PageTree {
-    ghost use Rattle.page_tree.specs.Trees.{held};
+    ghost use Rattle.page_leaves.specs.Trees.{held};
 
     ghost at = { λ t. held t.leaves };
 
@@ -217,6 +276,7 @@ impl Memory for PageTree {
         Ok(PageTree {
             leaves: Leaves::new(),
             code: Front::new(),
+            loaded: Recent::new(),
         })
     }
 
@@ -240,6 +300,17 @@ impl Memory for PageTree {
         match self.code.word(a) {
             Some(word) => word,
             None => self.fetch_elsewhere(a),
+        }
+    }
+
+    #[inline(always)]
+    fn load_word(&mut self, a: u32) -> u32 {
+        if a % 4 != 0 {
+            return self.leaves.word(a);
+        }
+        match self.leaves.word_in_front(a) {
+            Some(word) => word,
+            None => self.load_behind(a),
         }
     }
 

@@ -1,13 +1,13 @@
 //! The calls of a program to its environment.
 ghost use Rattle.std.specs.Prelude.{◌≡◌, OnOk, OnErr, slice_index};
-ghost use Rattle.rv_run.specs.Calls.{break_after};
+ghost use Rattle.rv_semantics.specs.Calls.{break_after};
 
 use crate::advance::answer;
 use crate::bytes::bytes_from;
 use crate::machine::Machine;
 use cells::End;
 use memory::Memory;
-use rv_run::is_output;
+use rv_semantics::is_output;
 use std::alloc::{AllocError, Global};
 
 /// The most bytes that one read or write takes.
@@ -33,7 +33,7 @@ fn break_after(lowest: u32, wanted: u32, now: u32) -> u32
 }
 
 impl<M: Memory> Machine<M> {
-    ghost use Rattle.rv_run.specs.Calls.{answers, called, read, write, brk};
+    ghost use Rattle.rv_semantics.specs.Calls.{answers, called, read, write, brk};
     ghost use Rattle.seq_machine.specs.States.{state_of};
 
     // Answers a call, after which the run goes on.

@@ -15,18 +15,22 @@ owned (Some rc) = Some rc.value
 abbrev pub child_at : List (Option (Rc Node Global)) → ℕ → Option Node
 child_at children i = owned (slice_index_or children i None)
 
+-- child i of a node
 abbrev pub child_in : Node-F Node Children → ℕ → Option Node
 child_in (Inner box) i = child_at box.value.at i
 child_in (Leaf bytes) i = None
 
+-- the bytes of a leaf
 abbrev pub bytes_in : Node-F Node Children → List ℕ
 bytes_in (Inner box) = []
 bytes_in (Leaf bytes) = bytes.at
 
+-- whether a node has children
 abbrev pub is_inner_in : Node-F Node Children → Bool
 is_inner_in (Inner box) = true
 is_inner_in (Leaf bytes) = false
 
+-- child i of a node
 abbrev pub child : Node → ℕ → Option Node
 child n i = child_in (out-Node n) i
 
@@ -42,5 +46,6 @@ byte n i = slice_index (bytes_of n) i
 abbrev pub overwritten : List ℕ → ℕ → List ℕ → List ℕ
 overwritten xs from bytes = take from xs ++ (bytes ++ drop (from + length bytes) xs)
 
+-- whether a node has children
 abbrev pub is_inner : Node → Bool
 is_inner n = is_inner_in (out-Node n)

@@ -1,0 +1,3 @@
+pub mod Lists
+mod Paths
+pub mod Trees

@@ -1,0 +1,28 @@
+-- The leaves of a memory by number, and the bytes that they hold.
+use Rattle.std.specs.Prelude.{ℕ, ◌+◌, ◌-◌, ◌/◌, ◌%◌, ◌==◌, if◌then◌else◌, Option, Some, None, slice_index}
+use Rattle.tree_node.specs.declared.node.Node.{Node}
+use Rattle.tree_node.specs.Nodes.{owned}
+use Rattle.page_leaves.specs.Paths.{leaf_below, leaf_bytes}
+use Rattle.page_leaves.specs.Shown.{in_front}
+use Rattle.page_leaves.specs.declared.leaves.Leaves.{Leaves}
+
+-- the first of two leaves where there is one, else the other
+abbrev pub or_else : Option Node → Option Node → Option Node
+or_else None other = other
+or_else (Some leaf) other = Some leaf
+
+-- the leaf of a number where none stands in front: the one aside, or else the tree's
+abbrev pub behind : Leaves → ℕ → Option Node
+behind t n = or_else (in_front t.aside n) (leaf_below 4 (owned t.root) n)
+
+-- the leaf of a number
+abbrev pub leaf_of : Leaves → ℕ → Option Node
+leaf_of t n = or_else (in_front t.front n) (behind t n)
+
+-- a byte that no leaf holds is 0
+abbrev pub held : Leaves → ℕ → ℕ
+held t a = slice_index (leaf_bytes (leaf_of t (a / 256))) (a % 256)
+
+-- how many leaves hold these bytes
+abbrev pub leaves_of : ℕ → ℕ → ℕ
+leaves_of a n = if n == 0 then 0 else (a % 256 + n - 1) / 256 + 1
