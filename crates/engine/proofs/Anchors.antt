@@ -7,8 +7,8 @@ use Rattle.std.proofs.lemmas.Option.{get_or_from_slice_get, slice_get_within}
 use Rattle.dist_image.specs.declared.image.Slot.TheVariants.{Fork}
 use Rattle.dist_image.specs.declared.image.Anchor.{Anchor}
 use Rattle.dist_image.specs.Image.{Distilled, IsImage, IsSlot, IsAnchor, anchor_from, anchor_at}
-use Rattle.image_world.specs.World.{anchor_of, count_of, entry}
-use Rattle.image_world.proofs.Found.{found}
+use Rattle.image_semantics.specs.World.{anchor_of, count_of, entry}
+use Rattle.image_semantics.proofs.Found.{found}
 
 -- anchors are numbered from i on
 from_least : (i : ℕ) (anchors : List Anchor) (pc m : ℕ) → anchor_from i anchors pc ≡ Some m → i ≤ m

@@ -24,13 +24,13 @@ use Rattle.speculation.specs.Engine.{Answer, settled, dropped_by, committed_as, 
 use Rattle.rv_word.specs.declared.inst.Inst.{Inst}
 use Rattle.rv_word.specs.Meaning.{meaning}
 use Rattle.rv_word.specs.Masks.{sources}
-use Rattle.rv_run.specs.Values.{bytes_of}
-use Rattle.rv_run.specs.Effect.{next, effect_at, first, second, load_count, load_from}
-use Rattle.rv_run.specs.Prints.{is_task_call}
-use Rattle.rv_run.specs.Machine.{machine_in, word_at}
+use Rattle.rv_semantics.specs.Values.{bytes_of}
+use Rattle.rv_semantics.specs.Effect.{next, effect_at, first, second, load_count, load_from}
+use Rattle.rv_semantics.specs.Prints.{is_task_call}
+use Rattle.rv_semantics.specs.Machine.{machine_in, word_at}
 use Rattle.seq_machine.proofs.Advances.{zero_unput}
 use Rattle.dist_image.specs.Image.{Distilled, prints_at}
-use Rattle.image_world.specs.World.{world, task_machine}
+use Rattle.image_semantics.specs.World.{world, task_machine}
 use Rattle.layers.specs.Layered.{laid}
 use Rattle.slave.specs.Task.{Shown as TaskShown, modelled as task_modelled, IsTaskOf}
 use Rattle.slave.proofs.Keeps.{laid_is}

@@ -18,8 +18,8 @@ use Rattle.speculation_laws.specs.Told.{Tells, waits, is_idle}
 use Rattle.speculation_laws.proofs.Answers.{happens_tells, happens_idle, run_rises}
 use Rattle.speculation_laws.proofs.Debt.{ends_in_debt}
 use Rattle.dist_image.specs.Image.{Distilled, IsImage}
-use Rattle.image_world.specs.World.{world}
-use Rattle.image_world.proofs.Known.{known}
+use Rattle.image_semantics.specs.World.{world}
+use Rattle.image_semantics.proofs.Known.{known}
 use Rattle.engine.specs.Shown.{Shown, modelled, Happens, MayTake, IsCostly}
 use Rattle.engine.specs.Counted.{counted, AreCounts}
 use Rattle.engine.proofs.Sets.{State-set}

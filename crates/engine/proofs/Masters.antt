@@ -16,14 +16,14 @@ use Rattle.speculation.specs.World.{World, Master, Driven, Goes, Spawns, Stays, 
 use Rattle.speculation.specs.Task.{new_task}
 use Rattle.speculation.specs.Engine.{Model, driven, spawned, started, master_step, going_on, restart}
 use Rattle.rv_word.specs.Meaning.{meaning}
-use Rattle.rv_run.specs.Effect.{effect_at}
-use Rattle.rv_run.specs.Machine.{exec_in}
+use Rattle.rv_semantics.specs.Effect.{effect_at}
+use Rattle.rv_semantics.specs.Machine.{exec_in}
 use Rattle.dist_image.specs.declared.image.Slot.{Slot}
 use Rattle.dist_image.specs.declared.image.Slot.TheVariants.{Exec, Go, Fork}
 use Rattle.dist_image.specs.declared.image.Anchor.{Anchor}
 use Rattle.dist_image.specs.Image.{Distilled, IsImage, slot_of, prints_at}
-use Rattle.image_world.specs.World.{world, drive, slot_done, fork, go_to, why_of, begin, begin_behind, anchor_of, count_of}
-use Rattle.image_world.proofs.Known.{known}
+use Rattle.image_semantics.specs.World.{world, drive, slot_done, fork, go_to, why_of, begin, begin_behind, anchor_of, count_of}
+use Rattle.image_semantics.proofs.Known.{known}
 use Rattle.slave.specs.Task.{fresh, modelled as task_modelled}
 use Rattle.master.specs.declared.master.MasterDid.{MasterDid}
 use Rattle.master.specs.declared.master.MasterDid.TheVariants as did

@@ -14,7 +14,7 @@ use Rattle.speculation.specs.World.{World}
 use Rattle.speculation.specs.Task.{Task, advance, EndFits}
 use Rattle.speculation.specs.Engine.{told_task, slave_told, slave_tasks, going_on}
 use Rattle.dist_image.specs.Image.{Distilled}
-use Rattle.image_world.specs.World.{world}
+use Rattle.image_semantics.specs.World.{world}
 use Rattle.slave.specs.Task.{Shown as TaskShown, modelled as task_modelled, IsTaskOf}
 use Rattle.engine.specs.Shown.{Shown, modelled, tasks_modelled, Does, Happens, MayTake, IsCostly, is_run_by}
 use Rattle.engine.proofs.Lists.{none_goes, first_goes}

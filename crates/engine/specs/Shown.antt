@@ -17,7 +17,7 @@ use Rattle.speculation.specs.Engine.{Model, going_on}
 use Rattle.memory.specs.declared.Memory.{Ghosts}
 use Rattle.dist_image.specs.declared.image.Anchor.{Anchor}
 use Rattle.dist_image.specs.Image.{Distilled}
-use Rattle.image_world.specs.World.{world, begin_behind}
+use Rattle.image_semantics.specs.World.{world, begin_behind}
 use Rattle.seq_machine.specs.States.{state_of}
 use Rattle.slave.specs.Task.{Shown as TaskShown, shown as task_shown, fresh, modelled as task_modelled, IsTaskOf}
 use Rattle.slave.specs.declared.task.Task.{Task as CodeTask}
@@ -37,6 +37,7 @@ pub record Shown : Type 0 where
 abbrev pub tasks_shown : {M : Type 0} {d : Ghosts M} → (M → ℕ → ℕ) → List (CodeTask M d) → List TaskShown
 tasks_shown at ts = map (task_shown at) ts
 
+-- what contracts see of the engine's stage
 abbrev pub shown : {M : Type 0} {d : Ghosts M} → (M → ℕ → ℕ) → Stage M d → Shown
 shown at s = record {
   committed = state_of at s.machine;
@@ -47,9 +48,11 @@ shown at s = record {
   next = s.next;
 }
 
+-- the tasks of the model
 abbrev pub tasks_modelled : List TaskShown → List Task
 tasks_modelled ks = map task_modelled ks
 
+-- the model of what is seen, with these counts
 abbrev pub modelled : Shown → Counts → Model
 modelled s c = record {
   committed = s.committed;
@@ -61,6 +64,7 @@ modelled s c = record {
   counts = c;
 }
 
+-- each task is one of this image
 abbrev pub AreTasksOf : Distilled → List TaskShown → Type 0
 AreTasksOf image [] = Unit {0}
 AreTasksOf image (k ∷ ks) = IsTaskOf image k × AreTasksOf image ks
@@ -75,6 +79,7 @@ rested s None [] = record s { mode = Serial true }
 rested s None (k ∷ ks) = s
 rested s (Some a) ks = s
 
+-- the stage as an idle event leaves it
 abbrev pub at_rest : Shown → Shown
 at_rest s = rested s s.master s.tasks
 

@@ -1,8 +1,8 @@
 //! Where speculation begins, and the master's events.
 ghost use Rattle.std.specs.Prelude.{◌≡◌, ℕ, ◌^◌, ◌-◌, ◌<◌, Bool, true, length, IfOk, OnOk, OnErr, IfSome, IsSome, Some, nat_lt, slice_get};
 ghost use Rattle.dist_image.specs.Image.{Distilled, IsImage, IsAnchor};
-ghost use Rattle.image_world.specs.World.{anchor_of as anchor_there};
-ghost use Rattle.rv_run.specs.Values.{plain_value};
+ghost use Rattle.image_semantics.specs.World.{anchor_of as anchor_there};
+ghost use Rattle.rv_semantics.specs.Values.{plain_value};
 ghost use Rattle.slave.specs.Task.{IsTaskOf, fresh, shown as task_shown};
 
 use crate::stage::Stage;

@@ -2,7 +2,7 @@
 ghost use Rattle.std.specs.Prelude.{◌≡◌, ◌≤◌, IfOk};
 ghost use Rattle.speculation.specs.Kept.{Holds};
 ghost use Rattle.dist_image.specs.Image.{IsImage};
-ghost use Rattle.image_world.specs.World.{world};
+ghost use Rattle.image_semantics.specs.World.{world};
 ghost use Rattle.seq_machine.specs.States.{state_of};
 ghost use Rattle.engine.specs.Shown.{shown, modelled, AreTasksOf};
 ghost use Rattle.engine.specs.Images.{IsImage-prop};
@@ -19,7 +19,7 @@ use std::collections::VecDeque;
 
 /// A speculative machine: the committed machine, an image, and up to 64 slaves.
 ///
-/// What it does is the model of `speculation` in the world of `image_world`. It keeps the state
+/// What it does is the model of `speculation` in the world of `image_semantics`. It keeps the state
 /// where its machine began, so that contracts see where the run began.
 #[derive(Drop)]
 pub struct Engine<M: Memory> {

@@ -6,9 +6,9 @@ use Rattle.cells.specs.declared.Cell.{Cell}
 use Rattle.cells.specs.declared.Cell.TheVariants.{Reg, Byte}
 use Rattle.cells.specs.Bytes.{byte_cells, bytes_from}
 use Rattle.cells.specs.Seen.{Seen, look, read_cells, put_cell}
-use Rattle.rv_run.specs.Values.{bytes_of}
-use Rattle.rv_run.specs.Effect.{is_output}
-use Rattle.rv_run.specs.Prints.{is_short_write}
+use Rattle.rv_semantics.specs.Values.{bytes_of}
+use Rattle.rv_semantics.specs.Effect.{is_output}
+use Rattle.rv_semantics.specs.Prints.{is_short_write}
 use Rattle.layers.specs.Layered.{after_write, written_bytes}
 
 -- of n bytes from a on, the one at i is looked at

@@ -1,8 +1,9 @@
 //! Lines: 64 bytes of memory that lie together, with a mask of those that are recorded and one of those that were put.
 ghost use Rattle.std.specs.Prelude.{◌≡◌, ℕ, Bool, ◌+◌, ◌*◌, ◌/◌, ◌%◌, ◌<◌, ◌≤◌, ◌^◌, ◌||◌, ◌&&◌, not, cond, is_some, true, false, Some, None, nat_eq, OnOk, unwrap_or};
+ghost use Rattle.std.specs.Bool.{OnTrue};
 ghost use Rattle.cells.specs.Differ.{is_other};
 ghost use Rattle.layers.specs.Marks.{has, of_four};
-ghost use Rattle.layers.specs.Lines.{put_in, FourIs, lesser, IsLeast};
+ghost use Rattle.layers.specs.Lines.{put_in, FourIs, lesser, IsLeast, row};
 
 use memory::Memory;
 use std::alloc::{AllocError, Global};
@@ -64,6 +65,26 @@ pub(crate) fn bits_from(mask: u64, i: u32) -> u64
     ensures all { result ≡ 15 → (j : ℕ) → of_four i j ≡ true → has mask j ≡ true }
 {
     mask >> i & 15
+}
+
+// Four bytes of a memory. Only that they are below 256 is wanted of them, so the compiler leaves these looks out.
+#[inline(always)]
+fn four_of<M: Memory>(a: u32, mem: &M) -> [u8; 4]
+    requires { a + 4 ≤ 2 ^ 32 }
+    ensures { (q : ℕ) → of_four a q ≡ true → M.at mem.now q < 256 }
+{
+    [mem.get(a), mem.get(a + 1), mem.get(a + 2), mem.get(a + 3)]
+}
+
+// Whether two memories hold the same word. Then they hold the same four bytes.
+#[inline(always)]
+fn are_alike<M: Memory>(a: u32, base: &M, mem: &M) -> bool
+    requires { a + 4 ≤ 2 ^ 32 }
+    ensures { OnTrue result ((q : ℕ) → of_four a q ≡ true → M.at base.now q ≡ M.at mem.now q) }
+{
+    let _ = four_of(a, base);
+    let _ = four_of(a, mem);
+    base.word(a) == mem.word(a)
 }
 
 impl Line {
@@ -150,6 +171,52 @@ impl Line {
         least
     }
 
+    // The same at four addresses, one after another.
+    #[inline(never)]
+    fn lesser_of_four<M: Memory>(
+        &self,
+        number: u32,
+        i: u32,
+        base: &M,
+        mem: &M,
+        least: Option<u32>,
+    ) -> Option<u32>
+        requires number { number < 2 ^ 26 }
+        requires within { i + 4 ≤ 64 }
+        ensures { (p done : ℕ → Bool) → ((j : ℕ) → j < 64 → p (64 * number + j) ≡ is_other (cond (has self.now.read j) (Some (M.at base.now (64 * number + j))) None) (M.at mem.now (64 * number + j)))
+            → IsLeast p (λ q. done q || row number i q) least → IsLeast p (λ q. done q || row number (i + 4) q) result }
+    {
+        let a = 64 * number + i;
+        let first = self.lesser(i, a, base, mem, least);
+        let second = self.lesser(i + 1, a + 1, base, mem, first);
+        let third = self.lesser(i + 2, a + 2, base, mem, second);
+        self.lesser(i + 3, a + 3, base, mem, third)
+    }
+
+    // The same, where four that are not recorded, or are alike, are passed over at once.
+    #[inline(always)]
+    fn least_of_four<M: Memory>(
+        &self,
+        number: u32,
+        i: u32,
+        base: &M,
+        mem: &M,
+        least: Option<u32>,
+    ) -> Option<u32>
+        requires number { number < 2 ^ 26 }
+        requires within { i + 4 ≤ 64 }
+        ensures { (p done : ℕ → Bool) → ((j : ℕ) → j < 64 → p (64 * number + j) ≡ is_other (cond (has self.now.read j) (Some (M.at base.now (64 * number + j))) None) (M.at mem.now (64 * number + j)))
+            → IsLeast p (λ q. done q || row number i q) least → IsLeast p (λ q. done q || row number (i + 4) q) result }
+    {
+        if bits_from(self.read, i) == 0 {
+            return least;
+        }
+        if are_alike(64 * number + i, base, mem) {
+            return least;
+        }
+        self.lesser_of_four(number, i, base, mem, least)
+    }
+
     /// The least of what was found and the addresses of this line whose byte is recorded and is another one in the second memory.
     pub fn least_other<M: Memory>(
         &self,
@@ -166,8 +233,8 @@ impl Line {
             return found;
         }
         let mut least = found;
-        for i in 0..64 {
-            least = self.lesser(i, 64 * number + i, base, mem, least);
+        for k in 0..16 {
+            least = self.least_of_four(number, 4 * k, base, mem, least);
         }
         least
     }
@@ -190,6 +257,76 @@ impl Line {
         Ok(())
     }
 
+    // The same at four addresses, one after another.
+    #[inline(never)]
+    fn put_each<M: Memory>(
+        &self,
+        number: u32,
+        i: u32,
+        alloc: Global,
+        mem: &mut M,
+    ) -> Result<(), AllocError>
+        requires number { number < 2 ^ 26 }
+        requires within { i + 4 ≤ 64 }
+        ensures { (old : ℕ → ℕ) → ((q : ℕ) → M.at mem.old q ≡ cond (row number i q) (unwrap_or (put_in (Some self.now) (q % 64)) (old q)) (old q))
+            → OnOk result ((q : ℕ) → M.at mem.new q ≡ cond (row number (i + 4) q) (unwrap_or (put_in (Some self.now) (q % 64)) (old q)) (old q)) }
+    {
+        let a = 64 * number + i;
+        self.put_at(i, a, alloc, mem)?;
+        self.put_at(i + 1, a + 1, alloc, mem)?;
+        self.put_at(i + 2, a + 2, alloc, mem)?;
+        self.put_at(i + 3, a + 3, alloc, mem)
+    }
+
+    // The same where each of the four was put.
+    #[inline(always)]
+    fn put_all<M: Memory>(
+        &self,
+        number: u32,
+        i: u32,
+        alloc: Global,
+        mem: &mut M,
+    ) -> Result<(), AllocError>
+        requires number { number < 2 ^ 26 }
+        requires within { i + 4 ≤ 64 }
+        requires all { (j : ℕ) → of_four i j ≡ true → has self.now.put j ≡ true }
+        ensures { (old : ℕ → ℕ) → ((q : ℕ) → M.at mem.old q ≡ cond (row number i q) (unwrap_or (put_in (Some self.now) (q % 64)) (old q)) (old q))
+            → OnOk result ((q : ℕ) → M.at mem.new q ≡ cond (row number (i + 4) q) (unwrap_or (put_in (Some self.now) (q % 64)) (old q)) (old q)) }
+    {
+        let k = i as usize;
+        let bytes = [
+            self.bytes[k],
+            self.bytes[k + 1],
+            self.bytes[k + 2],
+            self.bytes[k + 3],
+        ];
+        mem.put(alloc, 64 * number + i, &bytes)
+    }
+
+    // The same, where nothing or all of it was put at once.
+    #[inline(always)]
+    fn put_four<M: Memory>(
+        &self,
+        number: u32,
+        i: u32,
+        alloc: Global,
+        mem: &mut M,
+    ) -> Result<(), AllocError>
+        requires number { number < 2 ^ 26 }
+        requires within { i + 4 ≤ 64 }
+        ensures { (old : ℕ → ℕ) → ((q : ℕ) → M.at mem.old q ≡ cond (row number i q) (unwrap_or (put_in (Some self.now) (q % 64)) (old q)) (old q))
+            → OnOk result ((q : ℕ) → M.at mem.new q ≡ cond (row number (i + 4) q) (unwrap_or (put_in (Some self.now) (q % 64)) (old q)) (old q)) }
+    {
+        let put = bits_from(self.put, i);
+        if put == 0 {
+            return Ok(());
+        }
+        if put == 15 {
+            return self.put_all(number, i, alloc, mem);
+        }
+        self.put_each(number, i, alloc, mem)
+    }
+
     /// Puts what was put in this line. Without memory for it some may be put.
     pub fn put_into<M: Memory>(
         &self,
@@ -203,8 +340,8 @@ impl Line {
         if self.put == 0 {
             return Ok(());
         }
-        for i in 0..64 {
-            self.put_at(i, 64 * number + i, alloc, mem)?;
+        for k in 0..16 {
+            self.put_four(number, 4 * k, alloc, mem)?;
         }
         Ok(())
     }

@@ -3,7 +3,7 @@ ghost use Rattle.std.specs.Prelude.{◌≡◌, ℕ, ◌<◌, ◌≤◌, ◌+◌,
 ghost use Rattle.layers.specs.Marks.{has};
 ghost use Rattle.cells.specs.declared.Cell.{Cell};
 ghost use Rattle.cells.specs.Differ.{differ, differs, first_where, is_other};
-ghost use Rattle.rv_run.specs.Values.{plain_value};
+ghost use Rattle.rv_semantics.specs.Values.{plain_value};
 ghost use Rattle.layers.specs.Layered.{seen_over, begun, laid, put_reg};
 
 use crate::line::Four;
@@ -190,7 +190,7 @@ impl<M: Memory> View for Overlay<M> {
 impl<M: Memory> Overlay<M> {
     ghost use Rattle.cells.specs.Bytes.{byte_cells, number};
     ghost use Rattle.cells.specs.Seen.{read_cells};
-    ghost use Rattle.rv_run.specs.Values.{bytes_of, register_value, register_cell};
+    ghost use Rattle.rv_semantics.specs.Values.{bytes_of, register_value, register_cell};
 
     /// Makes room for so many bytes that are read and so many that are put. Where it is there already this is done.
     #[inline(always)]

@@ -5,14 +5,14 @@ ghost use Rattle.cells.specs.declared.Cell.TheVariants.{Reg};
 ghost use Rattle.cells.specs.Bytes.{byte_cells, bytes_from, number};
 ghost use Rattle.cells.specs.Differ.{differ, differs};
 ghost use Rattle.cells.specs.Seen.{read_cells};
-ghost use Rattle.rv_run.specs.Values.{plain_value, bytes_of};
-ghost use Rattle.rv_run.specs.Prints.{is_short_write, arguments};
+ghost use Rattle.rv_semantics.specs.Values.{plain_value, bytes_of};
+ghost use Rattle.rv_semantics.specs.Prints.{is_short_write, arguments};
 ghost use Rattle.rv_step.specs.Outcome.{step_outcome};
 ghost use Rattle.layers.specs.Layered.{seen_of, output_of, HasRoom, begun, laid, after_write, written_bytes};
 
 use crate::overlay::Overlay;
 use cells::Differ;
-use rv_run::Flow;
+use rv_semantics::Flow;
 use rv_step::{Arch, Memory, View};
 use std::alloc::{AllocError, Global};
 

@@ -11,16 +11,16 @@ use Rattle.rv_word.specs.Meaning.{meaning}
 use Rattle.cells.specs.declared.Cell.TheVariants.{Reg}
 use Rattle.cells.specs.Cells.{Arch, value}
 use Rattle.cells.specs.Seen.{given_values}
-use Rattle.rv_run.specs.declared.Flow.{Flow}
-use Rattle.rv_run.specs.declared.Flow.TheVariants.{Next, Call, Break, Illegal, Misfetch}
-use Rattle.rv_run.specs.Values.{arch_of}
-use Rattle.rv_run.specs.Effect.{Effect, next, effect_at, after, is_store}
-use Rattle.rv_run.specs.Prints.{is_short_write}
+use Rattle.rv_semantics.specs.declared.Flow.{Flow}
+use Rattle.rv_semantics.specs.declared.Flow.TheVariants.{Next, Call, Break, Illegal, Misfetch}
+use Rattle.rv_semantics.specs.Values.{arch_of}
+use Rattle.rv_semantics.specs.Effect.{Effect, next, effect_at, after, is_store}
+use Rattle.rv_semantics.specs.Prints.{is_short_write}
 use Rattle.rv_step.proofs.TaskCalls.{is_call_flow, call_flow, no_call_flow}
-use Rattle.rv_run.specs.Machine.{exec, flow_of, moved, is_next, pc_after}
+use Rattle.rv_semantics.specs.Machine.{exec, flow_of, moved, is_next, pc_after}
 use Rattle.dist_image.specs.declared.image.Slot.{Slot}
 use Rattle.dist_image.specs.Image.{Distilled, slot_of, prints_at}
-use Rattle.image_world.specs.World.{drive, slot_done, exec_at, go_to, why_of}
+use Rattle.image_semantics.specs.World.{drive, slot_done, exec_at, go_to, why_of}
 use Rattle.master.specs.Word.{Leaves}
 use Rattle.master.specs.declared.master.MasterDid.{MasterDid}
 use Rattle.master.specs.declared.master.MasterDid.TheVariants.{Moved}

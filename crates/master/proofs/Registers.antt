@@ -3,7 +3,7 @@ use Rattle.std.proofs.Common.{◌≡◌, ℕ, ◌<◌, Bool, true, false, cond, 
 use Rattle.std.specs.Prelude.{nat_eq, slice_index}
 use Rattle.std.proofs.lemmas.Bool.{eqb-false}
 use mathlib.Core.Path.{fun_ext}
-use Rattle.rv_run.specs.Values.{arch_of}
+use Rattle.rv_semantics.specs.Values.{arch_of}
 
 -- one element of a list set
 pub set_at : (xs : List ℕ) (r v n : ℕ) → r < length xs → slice_index (set xs r v) n ≡ cond (nat_eq r n) v (slice_index xs n)

@@ -9,8 +9,8 @@ use Rattle.rv_word.specs.Meaning.{meaning, named, or_illegal, lines, tests, load
 use Rattle.cells.specs.declared.Cell.{Cell}
 use Rattle.cells.specs.declared.Cell.TheVariants.{Reg}
 use Rattle.cells.specs.Seen.{puts_of}
-use Rattle.rv_run.specs.Values.{register_puts}
-use Rattle.rv_run.specs.Effect.{effect, jumped, branched, holds, sum32, after, is_store}
+use Rattle.rv_semantics.specs.Values.{register_puts}
+use Rattle.rv_semantics.specs.Effect.{effect, jumped, branched, holds, sum32, after, is_store}
 
 -- register q is not put
 abbrev Leaves : ℕ → List (Cell × ℕ) → Type 0

@@ -12,12 +12,12 @@ use Rattle.cells.specs.declared.Cell.TheVariants.{Pc, Reg, Byte}
 use Rattle.cells.specs.Cells.{Arch, value, from_cells}
 use Rattle.cells.specs.Seen.{Seen, plain_seen, among, puts_of, put_cells, given_values}
 use Rattle.cells.proofs.Looks.{put_cells-at_once}
-use Rattle.rv_run.specs.declared.Flow.{Flow}
-use Rattle.rv_run.specs.declared.Flow.TheVariants.{Next, Call, Break, Illegal, Misfetch}
-use Rattle.rv_run.specs.Values.{register_puts}
-use Rattle.rv_run.specs.Effect.{Effect, effect, effect_at, cells, jumped, branched, holds, sum32, after, is_store}
-use Rattle.rv_run.specs.Machine.{exec, flow_of, moved, is_next, pc_after}
-use Rattle.rv_run.proofs.Local.{no_pc, no_put, same_effect}
+use Rattle.rv_semantics.specs.declared.Flow.{Flow}
+use Rattle.rv_semantics.specs.declared.Flow.TheVariants.{Next, Call, Break, Illegal, Misfetch}
+use Rattle.rv_semantics.specs.Values.{register_puts}
+use Rattle.rv_semantics.specs.Effect.{Effect, effect, effect_at, cells, jumped, branched, holds, sum32, after, is_store}
+use Rattle.rv_semantics.specs.Machine.{exec, flow_of, moved, is_next, pc_after}
+use Rattle.rv_semantics.proofs.Local.{no_pc, no_put, same_effect}
 use Rattle.rv_step.specs.Outcome.{Outcome, outcome}
 use Rattle.rv_step.proofs.Plain.{read_cells_plain, put_plain}
 use Rattle.rv_step.proofs.Stops.{stop_puts}

@@ -5,15 +5,15 @@ use Rattle.cells.specs.declared.Cell.TheVariants.{Reg}
 use Rattle.cells.specs.Cells.{value}
 use Rattle.speculation.specs.declared.Why.TheVariants as why
 use Rattle.speculation.specs.World.{Master, Driven, Goes, Spawns, Stays, Halts}
-use Rattle.rv_run.specs.Values.{arch_of}
-use Rattle.rv_run.specs.Effect.{next, after}
-use Rattle.rv_run.specs.Prints.{is_short_write}
-use Rattle.rv_run.specs.Machine.{moved}
+use Rattle.rv_semantics.specs.Values.{arch_of}
+use Rattle.rv_semantics.specs.Effect.{next, after}
+use Rattle.rv_semantics.specs.Prints.{is_short_write}
+use Rattle.rv_semantics.specs.Machine.{moved}
 use Rattle.dist_image.specs.declared.image.Slot.{Slot}
 use Rattle.dist_image.specs.declared.image.Slot.TheVariants.{Fork}
 use Rattle.dist_image.specs.declared.image.Anchor.{Anchor}
 use Rattle.dist_image.specs.Image.{Distilled, slot_of, prints_at}
-use Rattle.image_world.specs.World.{go_to}
+use Rattle.image_semantics.specs.World.{go_to}
 use Rattle.master.specs.declared.master.Master.{Master as CodeMaster}
 use Rattle.master.specs.declared.master.MasterDid.{MasterDid}
 use Rattle.master.specs.declared.master.MasterDid.TheVariants.{Moved, Spawned, Stalled, Halted}

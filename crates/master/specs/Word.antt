@@ -1,10 +1,10 @@
 -- What the word of a slot leaves of a state, by the flow that it answers.
 use Rattle.std.specs.Prelude.{◌≡◌, ℕ, true, false}
 use Rattle.cells.specs.Cells.{Arch}
-use Rattle.rv_run.specs.declared.Flow.{Flow}
-use Rattle.rv_run.specs.declared.Flow.TheVariants.{Next}
-use Rattle.rv_run.specs.Values.{arch_of}
-use Rattle.rv_run.specs.Machine.{exec, flow_of}
+use Rattle.rv_semantics.specs.declared.Flow.{Flow}
+use Rattle.rv_semantics.specs.declared.Flow.TheVariants.{Next}
+use Rattle.rv_semantics.specs.Values.{arch_of}
+use Rattle.rv_semantics.specs.Machine.{exec, flow_of}
 use Rattle.rv_step.specs.declared.arch.Arch.{Arch as CodeArch}
 
 -- the code's registers and memory, at a pc

@@ -1,19 +1,19 @@
 //! The master and its events.
 ghost use Rattle.std.specs.Prelude.{◌≡◌, ◌==◌, if◌then◌else◌, ℕ, ◌+◌, ◌*◌, ◌-◌, ◌^◌, ◌<◌, length, slice_get, true, false, ◌&&◌, IfOk, OnErr};
-ghost use Rattle.rv_run.specs.Values.{arch_of};
+ghost use Rattle.rv_semantics.specs.Values.{arch_of};
 ghost use Rattle.rv_word.specs.Meaning.{meaning};
 ghost use Rattle.dist_image.specs.Image.{IsImage, slot_of as place_of, prints_at};
 ghost use Rattle.cells.specs.Cells.{value};
-ghost use Rattle.rv_run.specs.Prints.{is_short_write};
-ghost use Rattle.image_world.specs.World.{drive, begin_behind, fork as forked, go_to, exec_at};
-ghost use Rattle.rv_run.specs.Effect.{is_store as stores};
+ghost use Rattle.rv_semantics.specs.Prints.{is_short_write};
+ghost use Rattle.image_semantics.specs.World.{drive, begin_behind, fork as forked, go_to, exec_at};
+ghost use Rattle.rv_semantics.specs.Effect.{is_store as stores};
 ghost use Rattle.master.specs.Shown.{shown, next_spawn, called, as_driven, Keeps, SpawnsNext};
 ghost use Rattle.master.specs.Shown as spec;
 
 use crate::places::Places;
 use crate::word::{is_store, perform, set_register, target};
 use dist_image::{Anchor, Image, Slot, prints_at};
-use rv_run::is_short_write;
+use rv_semantics::is_short_write;
 use rv_step::{Arch, Flow, Memory};
 use speculation::Why;
 use std::alloc::{AllocError, Global};

@@ -2,7 +2,7 @@
 ghost use Rattle.std.specs.Prelude.{◌≡◌, ℕ, ◌<◌, true, false, cond, nat_eq, slice_index, IfOk, OnErr};
 ghost use Rattle.rv_word.specs.Field.{rd};
 ghost use Rattle.rv_word.specs.Meaning.{meaning};
-ghost use Rattle.rv_run.specs.Effect.{is_store};
+ghost use Rattle.rv_semantics.specs.Effect.{is_store};
 ghost use Rattle.master.specs.Word.{Leaves, placed};
 
 use rv_step::{Arch, Flow, Memory, exec};

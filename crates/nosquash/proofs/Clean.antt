@@ -10,14 +10,14 @@ use Rattle.speculation.specs.Engine.{Model, happens, counted_by}
 use Rattle.speculation.specs.Kept.{Holds}
 use Rattle.squash_laws.specs.Tracks.{IsSafe}
 use Rattle.dist_image.specs.Image.{Distilled, IsImage}
-use Rattle.image_world.specs.World.{world}
-use Rattle.image_world.proofs.Known.{known}
+use Rattle.image_semantics.specs.World.{world}
+use Rattle.image_semantics.proofs.Known.{known}
 use Rattle.fitting.specs.Fits.{Fits}
 use Rattle.fitting.specs.Fails.{state_at, program, Meets}
 use Rattle.fitting_laws.specs.Laws.{TracksRun}
 use Rattle.fitting_laws.proofs.Safe.{next_safe}
-use Rattle.schedules.specs.Schedule.{after}
-use Rattle.schedules.proofs.After.{holds}
+use Rattle.speculation_schedules.specs.Schedule.{after}
+use Rattle.speculation_schedules.proofs.After.{holds}
 use Rattle.nosquash.proofs.Tracked.{fresh_tracked, event_tracked}
 
 abbrev IsClean : Counts → Type 0

@@ -12,7 +12,7 @@ use Rattle.speculation.specs.Engine.{Model, Answer, happens, fresh}
 use Rattle.speculation.specs.Kept.{Holds}
 use Rattle.squash_laws.specs.Tracks.{IsSafe}
 use Rattle.dist_image.specs.Image.{Distilled, IsImage}
-use Rattle.image_world.specs.World.{world}
+use Rattle.image_semantics.specs.World.{world}
 use Rattle.fitting.specs.Fits.{Fits}
 use Rattle.fitting.specs.Fails.{program, Meets, Reaches}
 use Rattle.fitting_laws.specs.Laws.{TracksRun}

@@ -3,12 +3,12 @@ use Rattle.std.specs.Prelude.{◌≡◌, ℕ, ◌<◌}
 use Rattle.cells.specs.Run.{State, EndsWithin}
 use Rattle.speculation.specs.declared.Event.{Event}
 use Rattle.dist_image.specs.Image.{Distilled, IsImage}
-use Rattle.image_world.specs.World.{world}
+use Rattle.image_semantics.specs.World.{world}
 use Rattle.fitting.specs.Fits.{Fits}
 use Rattle.fitting.specs.Fails.{state_at, program, Meets}
 use Rattle.assume_list.specs.declared.verdict.Verdict.{Verdict}
 use Rattle.assume_list.specs.declared.verdict.Verdict.TheVariants.{Met, Broken}
-use Rattle.schedules.specs.Schedule.{after}
+use Rattle.speculation_schedules.specs.Schedule.{after}
 
 -- with an image that fits and a run that meets its list to the end, nothing is counted as squashed or given up, whatever the events
 abbrev pub RunsLoseNothing : Type 0

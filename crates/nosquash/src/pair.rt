@@ -24,7 +24,7 @@ impl<M: Memory> Pair<M> {
     ghost use Rattle.speculation.specs.Engine.{happens, fresh};
     ghost use Rattle.speculation_laws.specs.Told.{Tells, waits, is_idle};
     ghost use Rattle.squash_laws.specs.Tracks.{IsSafe};
-    ghost use Rattle.rv_run.specs.Start.{program_word};
+    ghost use Rattle.rv_semantics.specs.Start.{program_word};
     ghost use Rattle.elf_reader.specs.Executable.{IsProgram};
     ghost use Rattle.seq_machine.specs.Parts.{loaded, start_of as program_start};
     ghost use Rattle.fitting.specs.Fits.{Fits};

@@ -21,6 +21,7 @@ why_word Trap = codes "trap"
 why_word Lost = codes "lost"
 why_word Spent = codes "spent"
 
+-- the word for an ending of a task
 abbrev pub ending_word : Ending → List ℕ
 ending_word Reached = codes "reached"
 ending_word Met = codes "met"
@@ -36,6 +37,7 @@ cell_words (Byte a) = codes "byte" ∷ hex_word a ∷ []
 abbrev pub differ_words : Differ → List (List ℕ)
 differ_words d = cell_words d.cell ++ codes "predicted" ∷ hex_word d.predicted ∷ codes "found" ∷ hex_word d.found ∷ []
 
+-- the line of an effect
 abbrev pub effect_line : Effect → List ℕ
 effect_line Moved = line (codes "moved") []
 effect_line (Forked number) = line (codes "forked") (decimal number ∷ [])
@@ -68,5 +70,6 @@ counts_text position c =
 abbrev pub outcome_text : Option End → ℕ → List ℕ
 outcome_text over bytes = line (codes "end") (over_words over) ++ line (codes "output") (decimal bytes ∷ [])
 
+-- the summary of a run that speculated
 abbrev pub summary_text : Model → List ℕ
 summary_text m = counts_text m.position m.counts ++ outcome_text m.committed.env.over (length m.committed.env.output)

@@ -12,14 +12,17 @@ use Rattle.report.specs.Text.{hex_word, line}
 abbrev pub head_text : ℕ → ℕ → List ℕ
 head_text version limit = (if version == 1 then [] else line (codes "version") (decimal version ∷ [])) ++ line (codes "limit") (decimal limit ∷ [])
 
+-- the line of slot i
 abbrev pub slot_line : ℕ → Slot → List ℕ
 slot_line i (Exec origin word) = line (codes "slot") (decimal i ∷ codes "exec" ∷ hex_word origin ∷ hex_word word ∷ [])
 slot_line i (Go target) = line (codes "slot") (decimal i ∷ codes "go" ∷ hex_word target ∷ [])
 slot_line i (Fork anchor) = line (codes "slot") (decimal i ∷ codes "fork" ∷ decimal anchor ∷ [])
 
+-- the line of anchor i
 abbrev pub anchor_line : ℕ → Anchor → List ℕ
 anchor_line i a = line (codes "anchor") (decimal i ∷ codes "pc" ∷ hex_word a.pc ∷ codes "slot" ∷ decimal a.slot ∷ codes "count" ∷ decimal a.count ∷ [])
 
+-- the line of a note
 abbrev pub note_line : Note → List ℕ
 note_line n = line (codes "note") (hex_word n.pc ∷ codes "slot" ∷ decimal n.slot ∷ codes "live" ∷ hex_word n.live ∷ codes "need" ∷ hex_word n.need ∷ [])
 
@@ -48,6 +51,7 @@ detail_words (Targets at to) = map hex_word to
 detail_words (Same at value) = hex_word value ∷ []
 detail_words _ = []
 
+-- the line of an assumption
 abbrev pub premise_line : Premise → List ℕ
 premise_line p = line (kind_word p) (place_words p ++ detail_words p)
 
@@ -68,5 +72,6 @@ places_text image = head_text image.version image.limit ++ (lines_from slot_line
 abbrev pub facts_text : Distilled → List ℕ
 facts_text image = flat_map note_line image.notes ++ (flat_map premise_line image.assumptions ++ flat_map write_line image.writes)
 
+-- the text of an image
 abbrev pub image_text : Distilled → List ℕ
 image_text image = places_text image ++ facts_text image

@@ -15,6 +15,7 @@ short_words (Some p) = kind_word p ∷ place_words p
 abbrev pub broken_line : ℕ → Option Premise → List ℕ
 broken_line position p = line (codes "broken") (decimal position ∷ short_words p)
 
+-- the line of a verdict
 abbrev pub verdict_line : Distilled → Verdict → List ℕ
 verdict_line image (Met n) = line (codes "met") (decimal n ∷ [])
 verdict_line image (Broken position which) = broken_line position (slice_get image.assumptions which)

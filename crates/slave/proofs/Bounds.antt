@@ -16,13 +16,13 @@ use Rattle.speculation.specs.declared.Ending.TheVariants.{Reached, Met, Full}
 use Rattle.speculation.specs.Task.{EndFits, looked}
 use Rattle.rv_word.specs.declared.inst.Inst.{Inst}
 use Rattle.rv_word.specs.Meaning.{meaning}
-use Rattle.rv_run.specs.Values.{bytes_of}
-use Rattle.rv_run.specs.Prints.{nowhere, is_short_write, is_task_call, asks, task_output}
-use Rattle.rv_run.specs.Machine.{machine, machine_in, word_at}
-use Rattle.rv_run.specs.Bounded.{IsAmong}
-use Rattle.rv_run.proofs.Bounded.{recorded_few, recorded_printing}
+use Rattle.rv_semantics.specs.Values.{bytes_of}
+use Rattle.rv_semantics.specs.Prints.{nowhere, is_short_write, is_task_call, asks, task_output}
+use Rattle.rv_semantics.specs.Machine.{machine, machine_in, word_at}
+use Rattle.rv_semantics.specs.Bounded.{IsAmong}
+use Rattle.rv_semantics.proofs.Bounded.{recorded_few, recorded_printing}
 use Rattle.dist_image.specs.Image.{Distilled, IsImage, most_steps, prints_at}
-use Rattle.image_world.specs.World.{world, task_machine}
+use Rattle.image_semantics.specs.World.{world, task_machine}
 use Rattle.slave.specs.Task.{Shown, modelled, Shows, IsTaskOf}
 use Rattle.slave.specs.Laws.{IsSmall, most_recorded, most_printed}
 

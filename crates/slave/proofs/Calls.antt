@@ -11,11 +11,11 @@ use Rattle.cells.proofs.Looks.{read_cells-at_once, looked_twice}
 use Rattle.rv_word.specs.declared.inst.Inst.{Inst}
 use Rattle.rv_word.specs.declared.inst.Inst.TheVariants.{Ecall}
 use Rattle.rv_word.specs.Meaning.{meaning}
-use Rattle.rv_run.specs.declared.Flow.{Flow}
-use Rattle.rv_run.specs.Values.{bytes_of}
-use Rattle.rv_run.specs.Effect.{effect, effect_at, next, is_output}
-use Rattle.rv_run.specs.Prints.{nowhere, is_short_write, is_call, is_task_call, asks, arguments, task_effect, task_output}
-use Rattle.rv_run.proofs.Tasks.{is_call_is, asks_no_other}
+use Rattle.rv_semantics.specs.declared.Flow.{Flow}
+use Rattle.rv_semantics.specs.Values.{bytes_of}
+use Rattle.rv_semantics.specs.Effect.{effect, effect_at, next, is_output}
+use Rattle.rv_semantics.specs.Prints.{nowhere, is_short_write, is_call, is_task_call, asks, arguments, task_effect, task_output}
+use Rattle.rv_semantics.proofs.Tasks.{is_call_is, asks_no_other}
 use Rattle.rv_step.specs.Outcome.{Outcome, outcome, task_step, step_outcome, inst_at}
 use Rattle.rv_step.proofs.TaskCalls.{by_itself, then_called, called as does}
 use Rattle.layers.specs.Layered.{after_write, written_bytes}

@@ -20,19 +20,19 @@ use Rattle.speculation.specs.Task.{advance, ended_by, looked, IsTask, EndFits}
 use Rattle.speculation.proofs.Runs.{advance_keeps}
 use Rattle.rv_word.specs.declared.inst.Inst.{Inst}
 use Rattle.rv_word.specs.Meaning.{meaning}
-use Rattle.rv_run.specs.declared.Flow.{Flow}
-use Rattle.rv_run.specs.declared.Flow.TheVariants.{Next, Call, Break, Illegal, Misfetch}
-use Rattle.rv_run.specs.Values.{bytes_of}
-use Rattle.rv_run.specs.Effect.{effect_at, next}
-use Rattle.rv_run.specs.Prints.{is_task_call, task_effect, task_output}
-use Rattle.rv_run.specs.Machine.{is_next, word_at}
-use Rattle.rv_run.specs.Calls.{step}
-use Rattle.rv_run.proofs.Tasks.{machine_local, moves as does_step}
+use Rattle.rv_semantics.specs.declared.Flow.{Flow}
+use Rattle.rv_semantics.specs.declared.Flow.TheVariants.{Next, Call, Break, Illegal, Misfetch}
+use Rattle.rv_semantics.specs.Values.{bytes_of}
+use Rattle.rv_semantics.specs.Effect.{effect_at, next}
+use Rattle.rv_semantics.specs.Prints.{is_task_call, task_effect, task_output}
+use Rattle.rv_semantics.specs.Machine.{is_next, word_at}
+use Rattle.rv_semantics.specs.Calls.{step}
+use Rattle.rv_semantics.proofs.Tasks.{machine_local, moves as does_step}
 use Rattle.rv_step.specs.Outcome.{Outcome, task_step, inst_at}
 use Rattle.rv_step.proofs.Follows.{task_follows}
 use Rattle.dist_image.specs.Image.{Distilled, IsImage, anchor_at, prints_at}
-use Rattle.image_world.specs.World.{world, task_machine}
-use Rattle.image_world.proofs.Known.{known}
+use Rattle.image_semantics.specs.World.{world, task_machine}
+use Rattle.image_semantics.proofs.Known.{known}
 use Rattle.layers.specs.Layered.{laid, begun, pc_alone}
 use Rattle.slave.specs.Task.{Shown, fresh, next_of, ending_after, left_at, went, performed, goes_to, advanced, modelled, Shows, IsTaskOf, Agrees, FollowsRun}
 use Rattle.slave.proofs.Worlds.{one_more, task_same}

@@ -12,7 +12,7 @@ use Rattle.speculation.specs.World.{arrivals}
 use Rattle.speculation.specs.Task.{Task, IsTask, EndFits}
 use Rattle.dist_image.specs.declared.image.Anchor.{Anchor}
 use Rattle.dist_image.specs.Image.{Distilled, anchor_at, anchor_from}
-use Rattle.image_world.specs.World.{world, task_machine, count_of, entry}
+use Rattle.image_semantics.specs.World.{world, task_machine, count_of, entry}
 
 -- an anchor's number is one of the table
 abbrev IsIn : ℕ → List Anchor → Option ℕ → Type 0

@@ -11,15 +11,15 @@ use Rattle.speculation.specs.declared.Ending.{Ending}
 use Rattle.speculation.specs.declared.Ending.TheVariants.{Reached, Met, Full}
 use Rattle.speculation.specs.World.{World, arrivals}
 use Rattle.speculation.specs.Task.{Task, now, looked, IsTask}
-use Rattle.rv_run.specs.declared.Flow.{Flow}
-use Rattle.rv_run.specs.declared.Flow.TheVariants.{Next}
-use Rattle.rv_run.specs.Effect.{after}
-use Rattle.rv_run.specs.Prints.{arguments, task_output}
-use Rattle.rv_run.specs.Calls.{step}
+use Rattle.rv_semantics.specs.declared.Flow.{Flow}
+use Rattle.rv_semantics.specs.declared.Flow.TheVariants.{Next}
+use Rattle.rv_semantics.specs.Effect.{after}
+use Rattle.rv_semantics.specs.Prints.{arguments, task_output}
+use Rattle.rv_semantics.specs.Calls.{step}
 use Rattle.rv_step.specs.Outcome.{task_step, inst_at}
 use Rattle.memory.specs.declared.Memory.{Ghosts}
 use Rattle.dist_image.specs.Image.{Distilled, anchor_at, prints_at}
-use Rattle.image_world.specs.World.{world}
+use Rattle.image_semantics.specs.World.{world}
 use Rattle.layers.specs.Layered.{seen_of, output_of, begun, laid, after_write, written_bytes}
 use Rattle.slave.specs.declared.did.SlaveDid.{SlaveDid}
 use Rattle.slave.specs.declared.did.SlaveDid.TheVariants.{Stepped, Done}
@@ -54,6 +54,7 @@ abbrev pub next_of : Flow → Option ℕ
 next_of (Next to) = Some to
 next_of _ = None
 
+-- how a task ends by its counts, if it does: it is reached, or full
 abbrev pub ending_after : ℕ → ℕ → ℕ → Option Ending
 ending_after left steps limit = cond (nat_eq left 0) (Some Reached) (cond (nat_eq steps limit) (Some Full) None)
 
@@ -82,6 +83,7 @@ abbrev pub called : Bool → Shown → Shown
 called false k = record k { seen = read_cells arguments k.seen }
 called true k = record k { seen = after_write (read_cells arguments k.seen); output = k.output ++ written_bytes k.seen }
 
+-- the pc behind a call that a task does
 abbrev pub goes_behind : Bool → ℕ → Option ℕ
 goes_behind false pc = None
 goes_behind true pc = Some (after pc)

@@ -2,7 +2,7 @@
 ghost use Rattle.std.specs.Prelude.{◌≡◌};
 ghost use Rattle.slave.specs.Task as spec;
 
-use rv_run::Flow;
+use rv_semantics::Flow;
 use speculation::Ending;
 
 /// What an event of a task did.

@@ -5,7 +5,7 @@ ghost use Rattle.dist_image.specs.Image.{IsImage, prints_at};
 use crate::did::{SlaveDid, did_of, ending_after, next_of};
 use dist_image::{Anchor, Image, anchor_at, prints_at};
 use layers::TaskView;
-use rv_run::is_short_write;
+use rv_semantics::is_short_write;
 use rv_step::{Memory, View};
 use rv_word::{Inst, decode};
 use speculation::Ending;
@@ -28,11 +28,11 @@ impl<M: Memory> Task<M> {
     ghost use Rattle.std.specs.Prelude.{◌<◌, ℕ, Bool, true, false, IsNone, IsOk, IfSome, IfOk, OnOk, OnErr};
     ghost use Rattle.cells.specs.Run.{State};
     ghost use Rattle.speculation.specs.Task.{new_task, advance as next_task};
-    ghost use Rattle.rv_run.specs.Values.{arch_of, plain_value};
-    ghost use Rattle.rv_run.specs.Prints.{is_short_write};
+    ghost use Rattle.rv_semantics.specs.Values.{arch_of, plain_value};
+    ghost use Rattle.rv_semantics.specs.Prints.{is_short_write};
     ghost use Rattle.layers.specs.Layered.{HasRoom};
     ghost use Rattle.dist_image.specs.Image.{Distilled, IsImage, IsAnchor, prints_at};
-    ghost use Rattle.image_world.specs.World.{world};
+    ghost use Rattle.image_semantics.specs.World.{world};
     ghost use Rattle.slave.specs.Task.{shown, fresh, did_of, went, performed, goes_to, called, goes_behind, advanced, modelled, IsTaskOf, FollowsRun};
 
     /// A task of this number at an anchor of an image, with the registers and the memory there. Its

@@ -3,7 +3,7 @@ use Rattle.std.proofs.Common.{◌≡◌, ℕ, ◌%◌, ◌++◌, ap, ◌∙◌}
 use Rattle.cells.specs.declared.Cell.{Cell}
 use Rattle.cells.specs.declared.Cell.TheVariants.{Pc, Reg}
 use Rattle.cells.specs.Cells.{from_cells}
-use Rattle.rv_run.specs.Values.{plain_value}
+use Rattle.rv_semantics.specs.Values.{plain_value}
 use Rattle.layers.specs.Layered.{laid, seen_of, output_of}
 use Rattle.seq_machine.specs.States.{state_of}
 use Rattle.slave.proofs.Keeps.{on_err}

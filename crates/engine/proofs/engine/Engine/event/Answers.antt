@@ -4,7 +4,7 @@ use Rattle.speculation.specs.declared.Counts.{Counts}
 use Rattle.speculation.specs.World.{World}
 use Rattle.speculation.specs.Kept.{Holds}
 use Rattle.dist_image.specs.Image.{Distilled, IsImage}
-use Rattle.image_world.specs.World.{world}
+use Rattle.image_semantics.specs.World.{world}
 use Rattle.seq_machine.specs.States.{state_of}
 use Rattle.slave.proofs.Keeps.{on_err}
 use Rattle.engine.specs.Shown.{Shown, shown, modelled, AreTasksOf}

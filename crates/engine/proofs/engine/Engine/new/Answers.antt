@@ -5,7 +5,7 @@ use Rattle.speculation.specs.Kept.{Holds}
 use Rattle.speculation.specs.Engine.{fresh}
 use Rattle.speculation.specs.World.{World}
 use Rattle.speculation.proofs.Keeps.{fresh_holds}
-use Rattle.image_world.specs.World.{world}
+use Rattle.image_semantics.specs.World.{world}
 use Rattle.seq_machine.specs.States.{state_of}
 use Rattle.slave.specs.Task.{Shown as TaskShown}
 use Rattle.engine.specs.Shown.{AreTasksOf, tasks_shown, tasks_modelled}

@@ -1,7 +1,7 @@
 -- The master and one task, in a queue that was empty.
 use Rattle.std.proofs.Common.{ℕ, ◌+◌, Some, sym, ap, ◌∙◌, subst}
 use Rattle.cells.specs.Cells.{value}
-use Rattle.rv_run.specs.Values.{arch_of}
+use Rattle.rv_semantics.specs.Values.{arch_of}
 use Rattle.speculation.specs.declared.Mode.TheVariants.{Speculating}
 use Rattle.slave.specs.Task.{fresh}
 use Rattle.slave.specs.Task.{shown as task_shown}

@@ -5,7 +5,7 @@ use Rattle.std.specs.Option.{option_map}
 use Rattle.std.proofs.Math.Logic.{∥∥₁_map}
 use Rattle.std.proofs.lemmas.List.{length-map}
 use Rattle.cells.specs.Cells.{value}
-use Rattle.rv_run.specs.Values.{plain_value}
+use Rattle.rv_semantics.specs.Values.{plain_value}
 use Rattle.speculation.specs.declared.Effect.TheVariants.{Forked}
 use Rattle.speculation.specs.declared.Event.TheVariants as event
 use Rattle.slave.proofs.Keeps.{on_err}

@@ -9,7 +9,7 @@ use Rattle.std.proofs.lemmas.List.{length-map, map-set, get_or-map, set-get_or}
 use Rattle.std.proofs.lemmas.List.Quantifiers.{position-Some}
 use Rattle.speculation.specs.declared.Event.TheVariants as event
 use Rattle.speculation.specs.Task.{advance as next_task}
-use Rattle.image_world.specs.World.{world}
+use Rattle.image_semantics.specs.World.{world}
 use Rattle.seq_machine.specs.States.{state_of}
 use Rattle.slave.proofs.Keeps.{on_err}
 use Rattle.slave.specs.Task.{Shown as TaskShown, modelled as task_modelled, IsTaskOf}

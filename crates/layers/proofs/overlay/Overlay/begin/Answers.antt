@@ -1,5 +1,5 @@
 -- A view of which nothing is kept shows its checkpoint.
-use Rattle.rv_run.specs.Values.{plain_value}
+use Rattle.rv_semantics.specs.Values.{plain_value}
 use Rattle.layers.specs.Lines.{is_read, put_at}
 use Rattle.layers.proofs.Cells.{begin_seen}
 use Rattle.layers.proofs.overlay.Overlay.begin.Goals as goal

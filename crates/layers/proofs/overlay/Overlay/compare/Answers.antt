@@ -3,7 +3,7 @@ use Rattle.std.proofs.Common.{◌≡◌, ℕ, not, sym, ap, ◌∙◌, cond, Opt
 use Rattle.std.proofs.lemmas.Bool.{ne_eqb, eq-eqb}
 use Rattle.cells.specs.declared.Cell.TheVariants.{Pc, Reg, Byte}
 use Rattle.cells.specs.declared.Differ.{Differ}
-use Rattle.rv_run.specs.Values.{plain_value}
+use Rattle.rv_semantics.specs.Values.{plain_value}
 use Rattle.cells.proofs.Differs.{differ_pc, differ_reg, differ_byte}
 use Rattle.layers.specs.Layered.{read_of, base_of, cells_of, of_marks}
 use Rattle.layers.proofs.overlay.Overlay.compare.Goals as goal

@@ -3,7 +3,7 @@ use Rattle.std.proofs.Common.{◌∙◌, ap, arith, refl}
 use Rattle.std.specs.Prelude.{slice_index}
 use Rattle.cells.specs.Bytes.{byte_cells, number}
 use Rattle.cells.specs.Seen.{Seen, read_cells}
-use Rattle.rv_run.specs.Values.{bytes_of}
+use Rattle.rv_semantics.specs.Values.{bytes_of}
 use Rattle.layers.specs.Marks.{has}
 use Rattle.layers.specs.Lines.{is_read, put_at}
 use Rattle.layers.specs.Layered.{put_reg, base_of}

@@ -4,7 +4,7 @@ use Rattle.cells.specs.declared.Cell.{Cell}
 use Rattle.cells.specs.declared.Cell.TheVariants.{Byte}
 use Rattle.cells.specs.Bytes.{byte_cells}
 use Rattle.cells.specs.Seen.{Seen, read_cells}
-use Rattle.rv_run.specs.Values.{bytes_of}
+use Rattle.rv_semantics.specs.Values.{bytes_of}
 use Rattle.layers.specs.Layered.{seen_over}
 use Rattle.layers.proofs.Prints.{one_shown, one_printed}
 use Rattle.layers.proofs.view.TaskView.show.Goals as goal

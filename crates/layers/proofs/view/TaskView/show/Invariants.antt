@@ -2,7 +2,7 @@
 use Rattle.std.proofs.Common.{◌≡◌, ◌≤◌, ◌+◌, ◌-◌, ◌++◌, vec_len, vec_capacity}
 use Rattle.cells.specs.Bytes.{byte_cells, bytes_from}
 use Rattle.cells.specs.Seen.{read_cells}
-use Rattle.rv_run.specs.Values.{bytes_of}
+use Rattle.rv_semantics.specs.Values.{bytes_of}
 use Rattle.layers.specs.Layered.{seen_over}
 use Rattle.layers.proofs.view.TaskView.show.Given as goal
 

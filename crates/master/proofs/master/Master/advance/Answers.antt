@@ -3,7 +3,7 @@ use Rattle.std.proofs.Common.{◌≡◌, ◌∙◌, cond, Some, None, sym, ap, s
 use Rattle.std.specs.Prelude.{nat_eq}
 use Rattle.std.proofs.lemmas.Result.{on_err_weaker}
 use Rattle.dist_image.specs.declared.image.Slot.TheVariants.{Exec, Go, Fork}
-use Rattle.image_world.specs.World.{drive, exec_at}
+use Rattle.image_semantics.specs.World.{drive, exec_at}
 use Rattle.master.specs.Shown.{shown, next_spawn, forking, SpawnsNext}
 use Rattle.master.proofs.Events.{drive_spent, drive_slot, due_slot, none_else, drives}
 use Rattle.master.proofs.master.Master.advance.Goals as goal

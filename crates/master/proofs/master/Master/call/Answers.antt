@@ -2,10 +2,10 @@
 use Rattle.std.proofs.Common.{◌+◌, [], ◌∷◌, sym, ap, ◌∙◌}
 use Rattle.cells.specs.declared.Cell.TheVariants.{Reg}
 use Rattle.cells.specs.Cells.{Arch}
-use Rattle.rv_run.specs.Effect.{next, after}
-use Rattle.rv_run.specs.Machine.{moved}
+use Rattle.rv_semantics.specs.Effect.{next, after}
+use Rattle.rv_semantics.specs.Machine.{moved}
 use Rattle.dist_image.specs.Image.{slot_of}
-use Rattle.image_world.specs.World.{go_to}
+use Rattle.image_semantics.specs.World.{go_to}
 use Rattle.master.specs.Shown.{shown}
 use Rattle.master.proofs.Events.{answered, goes_on, called_by}
 use Rattle.master.proofs.master.Master.call.Goals as goal

@@ -2,8 +2,8 @@
 use Rattle.std.proofs.Common.{◌≡◌, sym, ap, ◌∙◌, subst}
 use Rattle.std.specs.Prelude.{nat_eq}
 use Rattle.cells.specs.Cells.{Arch}
-use Rattle.rv_run.specs.Values.{arch_of}
-use Rattle.rv_run.specs.declared.Flow.TheVariants.{Call}
+use Rattle.rv_semantics.specs.Values.{arch_of}
+use Rattle.rv_semantics.specs.declared.Flow.TheVariants.{Call}
 use Rattle.master.specs.Word.{Leaves, placed}
 use Rattle.master.specs.Shown.{shown, called}
 use Rattle.master.proofs.Registers.{put_back}

@@ -1,6 +1,6 @@
 -- A store goes on behind itself, or isn't done.
 use Rattle.std.proofs.Common.{sym, ◌∙◌}
-use Rattle.rv_run.specs.Effect.{after}
+use Rattle.rv_semantics.specs.Effect.{after}
 use Rattle.dist_image.specs.Image.{slot_of}
 use Rattle.master.specs.Word.{placed}
 use Rattle.master.specs.Shown.{shown}

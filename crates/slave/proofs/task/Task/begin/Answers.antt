@@ -2,8 +2,8 @@
 use Rattle.std.proofs.Common.{ℕ, List, [], sym, ap, subst, arith, None}
 use Rattle.cells.specs.declared.Cell.{Cell}
 use Rattle.cells.specs.Seen.{Seen}
-use Rattle.rv_run.specs.Values.{plain_value}
-use Rattle.image_world.specs.World.{world}
+use Rattle.rv_semantics.specs.Values.{plain_value}
+use Rattle.image_semantics.specs.World.{world}
 use Rattle.slave.specs.Task.{Shown, modelled, Shows}
 use Rattle.slave.proofs.Keeps.{fresh_shows}
 use Rattle.slave.proofs.task.Task.begin.Goals as goal

@@ -2,7 +2,7 @@
 use Rattle.std.proofs.Common.{◌≡◌, true, false, ◌++◌, sym, ap, ◌∙◌}
 use Rattle.std.proofs.lemmas.Bool.{true≢false}
 use Rattle.cells.specs.Seen.{Seen}
-use Rattle.rv_run.specs.Prints.{is_short_write}
+use Rattle.rv_semantics.specs.Prints.{is_short_write}
 use Rattle.layers.specs.Layered.{after_write, written_bytes}
 use Rattle.slave.specs.Task.{Shown, shown, called}
 use Rattle.slave.proofs.Calls.{short_is}

@@ -1,6 +1,6 @@
 -- The view after the instruction is what its outcome shows; and where the task may print, the other function says so.
 use Rattle.std.proofs.Common.{◌≡◌, false, ◌&&◌, sym, ap, ◌∙◌}
-use Rattle.rv_run.specs.Prints.{is_call, asks}
+use Rattle.rv_semantics.specs.Prints.{is_call, asks}
 use Rattle.rv_step.specs.Outcome.{step_outcome, inst_at}
 use Rattle.dist_image.specs.Image.{prints_at}
 use Rattle.layers.specs.Layered.{seen_of, output_of}

@@ -5,8 +5,8 @@
 //! engine name this world.
 #![tactic(auto)]
 
-ghost use Rattle.image_world.specs.Laws.{WorldsAreKnown, AnchorsAreFound};
-ghost use Rattle.image_world.specs.Rows.{TurnsReach, CallsAreMet, RunsEnd, CirclesFork, StraysAreLost, TasksPrint, HelloIsSaid, MasterRows, RecordRows};
+ghost use Rattle.image_semantics.specs.Laws.{WorldsAreKnown, AnchorsAreFound};
+ghost use Rattle.image_semantics.specs.Rows.{TurnsReach, CallsAreMet, RunsEnd, CirclesFork, StraysAreLost, TasksPrint, HelloIsSaid, MasterRows, RecordRows};
 
 /// The world of every image meets what the laws of speculation ask of a world, whatever program is
 /// run and whether or not the image fits it.

@@ -5,8 +5,8 @@ use Rattle.cells.specs.declared.Cell.TheVariants.{Reg, Byte}
 use Rattle.cells.specs.declared.End.TheVariants.{Exit}
 use Rattle.cells.specs.Run.{State}
 use Rattle.cells.specs.Task.{said, recorded}
-use Rattle.rv_run.specs.Start.{Loaded, start}
-use Rattle.rv_run.specs.Programs.{frame, exit_7, hello, ten_turns}
+use Rattle.rv_semantics.specs.Start.{Loaded, start}
+use Rattle.rv_semantics.specs.Programs.{frame, exit_7, hello, ten_turns}
 use Rattle.speculation.specs.declared.Why.TheVariants as why
 use Rattle.speculation.specs.declared.Ending.TheVariants.{Reached, Met}
 use Rattle.speculation.specs.declared.Effect.{Effect}
@@ -19,11 +19,13 @@ use Rattle.dist_image.specs.declared.image.Slot.TheVariants.{Exec, Go, Fork}
 use Rattle.dist_image.specs.declared.image.Anchor.{Anchor}
 use Rattle.dist_image.specs.declared.image.Note.{Note}
 use Rattle.dist_image.specs.Image.{Distilled}
-use Rattle.image_world.specs.World.{task_machine, world}
+use Rattle.image_semantics.specs.World.{task_machine, world}
 
+-- an anchor, by pc, slot and count
 abbrev pub anchor : ℕ → ℕ → ℕ → Anchor
 anchor pc slot count = record { pc = pc; slot = slot; count = count }
 
+-- a note, by pc and slot
 abbrev pub note : ℕ → ℕ → Note
 note pc slot = record { pc = pc; slot = slot; live = 0; need = 0 }
 
@@ -81,32 +83,39 @@ hello_image = record {
   writes = 0x00010014 ∷ [];
 }
 
+-- what is told of a list of events
 abbrev pub told : World → List Event → List Effect
 told w es = effects w es (fresh w)
 
+-- the world of ten turns of a loop
 abbrev pub turns : Distilled → ℕ → World
 turns image slaves = world (start ten_turns []) image slaves
 
+-- a task that reaches its end, while the master goes on
 abbrev pub TurnsReach : Type 0
 TurnsReach =
     told (turns turns_image 4) (Restart ∷ SerialEvent ∷ Restart ∷ Slave 0 ∷ Slave 0 ∷ Slave 0 ∷ Slave 0 ∷ MasterEvent ∷ MasterEvent ∷ MasterEvent ∷ MasterEvent ∷ MasterEvent ∷ MasterEvent ∷ [])
     ≡ (Idle ∷ Stepped ∷ Started 0x00010004 ∷ Stepped ∷ Stepped ∷ Stepped ∷ Done Reached ∷ Moved ∷ Moved ∷ Moved ∷ Moved ∷ Moved ∷ Forked 1 ∷ [])
 
+-- a task that meets a call, and a master that halts there
 abbrev pub CallsAreMet : Type 0
 CallsAreMet =
     told (world (start exit_7 []) call_image 4) (SerialEvent ∷ SerialEvent ∷ Restart ∷ Slave 0 ∷ MasterEvent ∷ MasterEvent ∷ Slave 1 ∷ [])
     ≡ (Stepped ∷ Stepped ∷ Started 0x00010008 ∷ Done Met ∷ Halted why.Call ∷ Idle ∷ Idle ∷ [])
 
+-- a run that ends, and events behind its end
 abbrev pub RunsEnd : Type 0
 RunsEnd =
     told (world (start exit_7 []) call_image 4) (SerialEvent ∷ SerialEvent ∷ SerialEvent ∷ SerialEvent ∷ Restart ∷ [])
     ≡ (Stepped ∷ Stepped ∷ Ended (Exit 7) ∷ Idle ∷ Idle ∷ [])
 
+-- a master that forks by turns, and stalls where no slave is free
 abbrev pub CirclesFork : Type 0
 CirclesFork =
     told (turns circle_image 2) (SerialEvent ∷ Restart ∷ MasterEvent ∷ MasterEvent ∷ MasterEvent ∷ MasterEvent ∷ SerialEvent ∷ [])
     ≡ (Stepped ∷ Started 0x00010004 ∷ Moved ∷ Forked 1 ∷ Moved ∷ Stalled ∷ Idle ∷ [])
 
+-- a master that leaves its slots
 abbrev pub StraysAreLost : Type 0
 StraysAreLost =
     told (turns astray_image 2) (SerialEvent ∷ Restart ∷ MasterEvent ∷ MasterEvent ∷ [])
@@ -128,6 +137,7 @@ calling from count =
     let s = start hello [] in
     record s { arch = record s.arch { pc = 0x00010014; regs = λ r. cond (nat_eq r 10) 1 (cond (nat_eq r 11) from (cond (nat_eq r 12) count 64)) } }
 
+-- an image of a greeting whose call is an anchor
 abbrev pub calling_image : Distilled
 calling_image = record hello_image { anchors = anchor 0x00010014 0 1 ∷ []; notes = note 0x00010014 0 ∷ [] }
 
