@@ -1,29 +1,34 @@
 -- The worlds of an adaptive run are of one run, and one gives way to another only where a round begins with nothing speculated on.
-use Rattle.std.proofs.Common.{◌≡◌, ℕ, ◌+◌, ◌*◌, ◌%◌, ◌<◌, ◌≤◌, zero, suc, Bool, true, false, cond, ◌&&◌, Option, Some, None, refl, sym, ap, ◌∙◌, subst, inl, inr, ⊎_elim, ◌⊎◌, eqb}
+use Rattle.std.proofs.Common.{◌≡◌, ℕ, ◌+◌, ◌*◌, ◌%◌, ◌<◌, ◌≤◌, zero, suc, Bool, true, false, cond, ◌&&◌, Option, Some, None, refl, sym, ap, ◌∙◌, subst, arith, inl, inr, ⊎_elim, ◌⊎◌, eqb}
 use Rattle.std.specs.Prelude.{nat_le, not, unwrap_or}
 use Rattle.std.proofs.lemmas.Bool.{eqb-true, and_parts}
-use Rattle.cells.specs.Run.{is_over}
+use Rattle.cells.specs.Run.{is_over, iterate}
+use Rattle.rv_semantics.specs.Calls.{step}
 use Rattle.speculation.specs.declared.Mode.{Mode}
 use Rattle.speculation.specs.declared.Mode.TheVariants.{Serial, Speculating}
 use Rattle.speculation.specs.Engine.{Model, Answer, happens}
 use Rattle.speculation.specs.Kept.{Holds}
 use Rattle.speculation_laws.specs.Told.{is_speculating, Tells}
 use Rattle.speculation_laws.proofs.Answers.{happens_tells}
-use Rattle.schedules.specs.Schedule.{in_rounds, has_come}
-use Rattle.schedules.specs.Exchanges.{after_each, AreInRounds}
-use Rattle.schedules.proofs.Exchanged as exchanged
-use Rattle.schedules.proofs.Rounds.{come_in_rounds}
+use Rattle.speculation_schedules.specs.Schedule.{in_rounds, has_come, IsFirstStop}
+use Rattle.speculation_schedules.specs.Laws.{StopsAt}
+use Rattle.speculation_schedules.proofs.After.{EndsByStep, ends_by_step}
+use Rattle.speculation_schedules.proofs.Near.{near_event, near_stop}
+use Rattle.speculation_schedules.proofs.Stops.{stops_so}
+use Rattle.speculation_schedules.specs.Exchanges.{after_each, AreInRounds}
+use Rattle.speculation_schedules.proofs.Exchanged as exchanged
+use Rattle.speculation_schedules.proofs.Rounds.{come_in_rounds}
 use Rattle.squash_laws.specs.Tracks.{ModeTracks, IsSafe}
 use Rattle.squash_laws.proofs.Safe.{happens_tracks}
 use Rattle.dist_image.specs.Image.{Distilled}
-use Rattle.image_world.proofs.Known.{known, spends}
+use Rattle.image_semantics.proofs.Known.{known, spends}
 use Rattle.fitting.specs.Fits.{Fits}
 use Rattle.fitting.specs.Fails.{program, Meets, Reaches}
 use Rattle.fitting_laws.specs.Setting.{setting}
 use Rattle.fitting_laws.specs.Laws.{TracksRun}
 use Rattle.fitting_laws.proofs.Sets.{is_setting}
 use Rattle.fitting_laws.proofs.Safe.{next_safe}
-use Rattle.adaptive_runs.specs.Adaptive.{Plan, Stage, beside, may_exchange, renewed, ready, adapted, image_at, world_at, answer_at}
+use Rattle.adaptive_runs.specs.Adaptive.{Plan, Stage, beside, may_exchange, renewed, ready, adapted, model_at, image_at, world_at, answer_at}
 use Rattle.adaptive_runs.specs.Laws.{IsPlan, IsUpTo}
 
 serial_mode : (m : Mode) → not (is_speculating m) ≡ true → (debt : Bool) × (m ≡ Serial debt)
@@ -45,7 +50,7 @@ module _ (p : Plan) where
       go true = refl
       go false = refl
 
-  ready_model : (k : ℕ) (a : Stage) → (ready p k a).model ≡ a.model
+  pub ready_model : (k : ℕ) (a : Stage) → (ready p k a).model ≡ a.model
   ready_model k a = go (may_exchange p k a.model)
     where
       go : (b : Bool) → (cond b (renewed p a) a).model ≡ a.model
@@ -142,6 +147,41 @@ module _ (p : Plan) where
 
     pub comes : (far k : ℕ) → has_come far (adapted p k).model ≡ false → k < (5 * limit + 7) * far * (p.slaves + 7)
     comes far k not_yet = come_in_rounds p.slaves (world_at p) limit worlds far k (ap (has_come far) (sym (models k)) ∙ not_yet)
+
+    -- where it stops
+    pub is_run : (k : ℕ) → (model_at p k).committed ≡ iterate step p.start (model_at p k).position
+    is_run k = (holds k).is_seq
+
+    one_event : (k : ℕ) → (model_at p (suc k)) ≡ (happens (world_at p k) (model_at p k) (in_rounds p.slaves k)).1
+    one_event k = next k ∙ ap (λ (a : Answer). a.1) (answered k)
+
+    ends_next : (k : ℕ) → EndsByStep (model_at p k) (model_at p (suc k))
+    ends_next k = subst (EndsByStep (model_at p k)) (sym (one_event k)) (ends_by_step (world_at p k) (model_at p k) (in_rounds p.slaves k))
+
+    near_next : (k : ℕ) → (model_at p (suc k)).position ≤ (model_at p k).position + limit
+    near_next k =
+        let w = world_at p k in
+        let is_world = known p.start (image_at p k) p.slaves (is_image_at k).0 is_plan.some in
+        let near = near_event w is_world.limit (model_at p k) (in_rounds p.slaves k) (holds k).tasks in
+        let same : (model_at p (suc k)).position ≡ (happens w (model_at p k) (in_rounds p.slaves k)).1.position = ap (λ (m : Model). m.position) (one_event k) in
+        let short = (is_image_at k).1 in
+        omega (arith, near, same, short)
+
+    begins : is_over p.start ≡ false → is_over (model_at p 0).committed ≡ false
+    unfolding adapted
+    begins runs = runs
+
+    first_position : (model_at p 0).position ≡ 0
+    unfolding adapted
+    first_position = refl
+
+    pub stops : is_over p.start ≡ false → (far k : ℕ) → 0 < far → IsFirstStop (model_at p) far k
+        → StopsAt (beside p p.first) (model_at p) far k × ((model_at p k).position < far + limit)
+    stops runs far k least stop =
+        let is_world = known p.start p.first p.slaves is_plan.first.0 is_plan.some in (
+          stops_so (beside p p.first) is_world (model_at p) (begins runs) is_run ends_next far k stop,
+          near_stop (model_at p) limit first_position near_next far k least stop,
+        )
 
     -- what the answer tells is so of the event of its world, and so of the answer
     pub tells : (k : ℕ) → Tells (world_at p k) (adapted p k).model (in_rounds p.slaves k) (answer_at p k).0 (adapted p (suc k)).model

@@ -4,9 +4,9 @@ use Rattle.cells.specs.Run.{State, is_over}
 use Rattle.speculation.specs.World.{World}
 use Rattle.speculation.specs.Engine.{Model, Answer, happens, fresh}
 use Rattle.speculation_laws.specs.Told.{is_speculating}
-use Rattle.schedules.specs.Schedule.{in_rounds}
+use Rattle.speculation_schedules.specs.Schedule.{in_rounds}
 use Rattle.dist_image.specs.Image.{Distilled}
-use Rattle.image_world.specs.World.{world}
+use Rattle.image_semantics.specs.World.{world}
 
 -- what an adaptive run is given: where it starts, how many slaves it has, and `first`, its image at first. An image is due every
 -- so many steps, and `made` is that of the first so many steps of the run, if there is one
@@ -24,6 +24,7 @@ pub record Stage : Type 0 where
   pub due : ℕ
 
 module _ (p : Plan) where
+  -- the world beside an image
   abbrev pub beside : Distilled → World
   beside image = world p.start image p.slaves
 
@@ -55,6 +56,10 @@ module _ (p : Plan) where
   unfoldable pub adapted : ℕ → Stage
   adapted zero = record { model = fresh (beside p.first); image = p.first; due = p.every }
   adapted (suc k) = advanced k (ready k (adapted k))
+
+  -- its model then
+  abbrev pub model_at : ℕ → Model
+  model_at k = (adapted k).model
 
   -- the image of event k, its world, and what the event answers
   abbrev pub image_at : ℕ → Distilled

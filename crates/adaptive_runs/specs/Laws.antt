@@ -1,15 +1,16 @@
 -- What stands over adaptive runs, whatever makes their images.
 use Rattle.std.specs.Prelude.{◌≡◌, ℕ, ◌+◌, ◌*◌, ◌<◌, ◌≤◌, suc, false, Some}
-use Rattle.cells.specs.Run.{iterate}
+use Rattle.cells.specs.Run.{is_over, iterate}
 use Rattle.speculation.specs.Kept.{Holds}
 use Rattle.speculation_laws.specs.Told.{Tells}
-use Rattle.schedules.specs.Schedule.{in_rounds, has_come}
+use Rattle.speculation_schedules.specs.Schedule.{in_rounds, has_come, IsFirstStop}
+use Rattle.speculation_schedules.specs.Laws.{StopsAt}
 use Rattle.squash_laws.specs.Tracks.{IsSafe}
-use Rattle.rv_run.specs.Calls.{step}
+use Rattle.rv_semantics.specs.Calls.{step}
 use Rattle.dist_image.specs.Image.{Distilled, IsImage}
 use Rattle.fitting.specs.Fits.{Fits}
 use Rattle.fitting.specs.Fails.{program, Meets, Reaches}
-use Rattle.adaptive_runs.specs.Adaptive.{Plan, adapted, image_at, world_at, answer_at}
+use Rattle.adaptive_runs.specs.Adaptive.{Plan, beside, adapted, model_at, image_at, world_at, answer_at}
 
 -- an image with no task longer than `limit`
 abbrev pub IsUpTo : ℕ → Distilled → Type 0
@@ -29,6 +30,7 @@ AdaptedHolds = (p : Plan) (limit : ℕ) → IsPlan p limit → (k : ℕ) → Hol
 abbrev pub AdaptedIsSequential : Type 0
 AdaptedIsSequential = (p : Plan) (limit : ℕ) → IsPlan p limit → (k : ℕ) → (adapted p k).model.committed ≡ iterate step p.start (adapted p k).model.position
 
+-- the committed position never falls
 abbrev pub AdaptedRises : Type 0
 AdaptedRises = (p : Plan) (limit : ℕ) → IsPlan p limit → (k : ℕ) → (adapted p k).model.position ≤ (adapted p (suc k)).model.position
 
@@ -41,6 +43,12 @@ AdaptedTells =
 abbrev pub AdaptedComes : Type 0
 AdaptedComes =
     (p : Plan) (limit : ℕ) → IsPlan p limit → (far k : ℕ) → has_come far (adapted p k).model ≡ false → k < (5 * limit + 7) * far * (p.slaves + 7)
+
+-- where it first has come far enough it stands as the run does: at its end, or past where it was to come by less than the longest task
+abbrev pub AdaptedStops : Type 0
+AdaptedStops =
+    (p : Plan) (limit : ℕ) → IsPlan p limit → is_over p.start ≡ false → (far k : ℕ) → 0 < far → IsFirstStop (model_at p) far k
+    → StopsAt (beside p p.first) (model_at p) far k × ((model_at p k).position < far + limit)
 
 -- of the images only that of the event need fit, and only its list is to be met
 abbrev pub AdaptedIsSafe : Type 0

@@ -1,15 +1,16 @@
 -- Worked rows: when images are exchanged in adaptive runs of the program of ten turns, over one slave. A round has eight events.
 use Rattle.std.specs.Prelude.{◌≡◌, ℕ, ◌+◌, true, false, [], ◌∷◌, map, Option, Some, None}
-use Rattle.rv_run.specs.Start.{start}
-use Rattle.rv_run.specs.Programs.{ten_turns}
+use Rattle.rv_semantics.specs.Start.{start}
+use Rattle.rv_semantics.specs.Programs.{ten_turns}
 use Rattle.speculation.specs.declared.Mode.{Mode}
 use Rattle.speculation.specs.declared.Mode.TheVariants.{Serial, Speculating}
 use Rattle.speculation.specs.Engine.{fresh}
 use Rattle.dist_image.specs.Image.{Distilled, nothing_known}
-use Rattle.image_world.specs.Rows.{turns_image}
+use Rattle.image_semantics.specs.Rows.{turns_image}
 use Rattle.adaptive_runs.specs.Adaptive.{Plan, Stage, beside, ready, adapted, image_at}
 use Rattle.adaptive_runs.specs.Laws.{IsPlan}
 
+-- a plan over ten turns of a loop, with one slave
 abbrev pub turning : ℕ → Distilled → (ℕ → Option Distilled) → Plan
 turning every first made = record { start = start ten_turns []; slaves = 1; every = every; first = first; made = made }
 
@@ -17,6 +18,7 @@ turning every first made = record { start = start ten_turns []; slaves = 1; ever
 abbrev pub marked : ℕ → Option Distilled
 marked position = Some (record turns_image { limit = 100 + position })
 
+-- the limit of the image that is held before event k
 abbrev pub limit_at : Plan → ℕ → ℕ
 limit_at p k = (image_at p k).limit
 

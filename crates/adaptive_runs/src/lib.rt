@@ -6,7 +6,7 @@
 //! whatever makes the images, are laws of the definitions.
 #![tactic(auto)]
 
-ghost use Rattle.adaptive_runs.specs.Laws.{AdaptedHolds, AdaptedIsSequential, AdaptedRises, AdaptedTells, AdaptedComes, AdaptedIsSafe};
+ghost use Rattle.adaptive_runs.specs.Laws.{AdaptedHolds, AdaptedIsSequential, AdaptedRises, AdaptedTells, AdaptedComes, AdaptedStops, AdaptedIsSafe};
 ghost use Rattle.adaptive_runs.specs.Rows.{PlanIsMet, WaitsToBeDue, ComesWhileSerial, StaysWhereNoneIsMade};
 
 /// After each event all that is kept stands. So the committed state is that of the sequential run
@@ -20,9 +20,11 @@ pub fn adaptive_runs_hold()
 {}
 
 /// An adaptive run comes to each position or to the end of the run, within the bound of the longest
-/// tasks of all its images.
+/// tasks of all its images. Where it first has, its state is that of the run: the one at the end, if
+/// the run ends within so many steps, and else one past them by less than the longest task.
 pub fn adaptive_runs_come()
-    ensures { AdaptedComes }
+    ensures comes { AdaptedComes }
+    ensures stops { AdaptedStops }
 {}
 
 /// Where the image of the moment fits its program, no task is squashed or given up while the run

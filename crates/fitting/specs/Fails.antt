@@ -7,15 +7,16 @@ use Rattle.cells.specs.declared.Cell.TheVariants.{Byte}
 use Rattle.cells.specs.Cells.{Arch, value}
 use Rattle.cells.specs.Bytes.{number, word_of}
 use Rattle.cells.specs.Run.{State, is_over, iterate, EndsWithin, count_after}
-use Rattle.rv_run.specs.Values.{register_value}
-use Rattle.rv_run.specs.Effect.{holds, is_store, sum32, load_size, extended}
-use Rattle.rv_run.specs.Machine.{word_at}
-use Rattle.rv_run.specs.Calls.{step, writes}
+use Rattle.rv_semantics.specs.Values.{register_value}
+use Rattle.rv_semantics.specs.Effect.{holds, is_store, sum32, load_size, extended}
+use Rattle.rv_semantics.specs.Machine.{word_at}
+use Rattle.rv_semantics.specs.Calls.{step, writes}
 use Rattle.dist_image.specs.Image.{Premise, Cut, Targets, Dead, Code, Within, Span, Same, Distilled}
-use Rattle.image_world.specs.World.{task_machine, count_of}
+use Rattle.image_semantics.specs.World.{task_machine, count_of}
 use Rattle.fitting.specs.Claims.{among}
 use Rattle.fitting.specs.Fits.{is_analysed, is_anchor_pc}
 
+-- an instruction is a jump by a register
 abbrev pub IsRegisterJump : Inst → Type 0
 IsRegisterJump (Jalr rd rs1 off) = Unit {0}
 IsRegisterJump _ = ⊥

@@ -1,8 +1,8 @@
 -- Worked rows: an image that fits its program and images that do not, and positions at which each assumption fails.
 use Rattle.std.specs.Prelude.{ℕ, true, false, [], ◌∷◌}
 use Rattle.cells.specs.Run.{State}
-use Rattle.rv_run.specs.Start.{Loaded, start}
-use Rattle.rv_run.specs.Programs.{frame, hello, exit_7, misfetch, ten_turns}
+use Rattle.rv_semantics.specs.Start.{Loaded, start}
+use Rattle.rv_semantics.specs.Programs.{frame, hello, exit_7, misfetch, ten_turns}
 use Rattle.dist_image.specs.declared.image.Slot.TheVariants.{Exec, Go, Fork}
 use Rattle.dist_image.specs.declared.image.Anchor.{Anchor}
 use Rattle.dist_image.specs.declared.image.Note.{Note}
@@ -10,9 +10,11 @@ use Rattle.dist_image.specs.Image.{Cut, Targets, Dead, Code, Within, Span, Same,
 use Rattle.fitting.specs.Fits.{Fits}
 use Rattle.fitting.specs.Fails.{program, Fails}
 
+-- an anchor, by pc, slot and count
 abbrev pub anchor : ℕ → ℕ → ℕ → Anchor
 anchor pc slot count = record { pc = pc; slot = slot; count = count }
 
+-- a note, by pc, slot and masks
 abbrev pub note : ℕ → ℕ → ℕ → ℕ → Note
 note pc slot live need = record { pc = pc; slot = slot; live = live; need = need }
 
@@ -70,6 +72,7 @@ unneeded_image = record never_image {
 abbrev pub misplaced_image : Distilled
 misplaced_image = record never_image { anchors = anchor 0x00010000 0 2 ∷ anchor 0x00010004 1 2 ∷ [] }
 
+-- the same without Span
 abbrev pub unspanned_image : Distilled
 unspanned_image = record never_image { assumptions = Cut 0x00010008 true ∷ Code ∷ Within ∷ [] }
 
@@ -100,6 +103,7 @@ store_image = record {
   writes = [];
 }
 
+-- the image of the dead store, which doesn't list it
 abbrev pub undead_image : Distilled
 undead_image = record store_image { assumptions = Code ∷ Within ∷ Span ∷ [] }
 
@@ -107,6 +111,7 @@ undead_image = record store_image { assumptions = Code ∷ Within ∷ Span ∷ [
 abbrev pub jump_ahead : Loaded
 jump_ahead = frame (0x00000297 ∷ 0x008280E7 ∷ 0x00000073 ∷ [])
 
+-- an image of the program that jumps by a register
 abbrev pub jump_image : Distilled
 jump_image = record {
   version = 1;
@@ -118,6 +123,7 @@ jump_image = record {
   writes = [];
 }
 
+-- the same without its Targets
 abbrev pub unaimed_image : Distilled
 unaimed_image = record jump_image { assumptions = Code ∷ Within ∷ Span ∷ [] }
 
@@ -161,6 +167,7 @@ lacking_image = record taken_image { notes = note 0x00010000 0 0x20 0x20 ∷ not
 abbrev pub branch_next : Loaded
 branch_next = frame (0x00000263 ∷ [])
 
+-- a branch to an address that is no multiple of 4
 abbrev pub branch_aside : Loaded
 branch_aside = frame (0x00000363 ∷ [])
 
@@ -248,12 +255,15 @@ value_image = record {
 abbrev pub misset_image : Distilled
 misset_image = record value_image { assumptions = Code ∷ Within ∷ Span ∷ Same 0x00010008 1 ∷ [] }
 
+-- it doesn't hold
 abbrev pub Never : Type 0 → Type 0
 Never P = P → ⊥
 
+-- an image fits a program
 abbrev pub FitsIn : Loaded → Distilled → Type 0
 FitsIn p image = Fits (program (start p [])) image
 
+-- images that fit, and images that break one rule each
 pub record FittingRows : Type 0 where
   pub cut : FitsIn never_true never_image
   pub uncut : Never (FitsIn never_true uncut_image)
@@ -279,6 +289,7 @@ pub record FittingRows : Type 0 where
 
 -- ---- failing assumptions
 
+-- the start of ten turns of a loop
 abbrev pub turns : State
 turns = start ten_turns []
 
@@ -290,6 +301,7 @@ stored = start (frame (0x00000297 ∷ 0x0452A023 ∷ 0x0402A303 ∷ [])) []
 abbrev pub stored_twice : State
 stored_twice = start (frame (0x00000297 ∷ 0x0452A023 ∷ 0x04528023 ∷ 0x0412C303 ∷ [])) []
 
+-- the start of the program that jumps by a register
 abbrev pub jumping : State
 jumping = start jump_ahead []
 
@@ -305,6 +317,7 @@ read_over = start (frame (0x00000597 ∷ 0x04058593 ∷ 0x00058023 ∷ 0x0010061
 abbrev pub rewriting : State
 rewriting = start (frame (0x00000297 ∷ 0x01C2A303 ∷ 0x0062A823 ∷ 0x05D00893 ∷ 0x00700513 ∷ 0x00000073 ∷ 0x00000000 ∷ 0x00900513 ∷ [])) []
 
+-- the start of the program that exits with 7
 abbrev pub exiting : State
 exiting = start exit_7 []
 
@@ -312,6 +325,7 @@ exiting = start exit_7 []
 abbrev pub noting : ℕ → Distilled
 noting pc = record nothing_known { notes = note pc 0 0 0 ∷ [] }
 
+-- an image with one anchor and nothing else
 abbrev pub anchored : ℕ → ℕ → ℕ → Distilled
 anchored limit pc count = record nothing_known { limit = limit; anchors = anchor pc 0 count ∷ [] }
 
@@ -324,12 +338,14 @@ pub record CutRows : Type 0 where
   -- a branch to a pc that is no multiple of 4 ends the run
   pub ends : Never (Fails (start branch_aside []) nothing_known (Cut 0x00010000 true) 0)
 
+-- where Targets fails, and where it doesn't
 pub record TargetRows : Type 0 where
   pub missing : Fails jumping nothing_known (Targets 0x00010004 (0x00010000 ∷ 0x0001000c ∷ [])) 1
   pub listed : Never (Fails jumping nothing_known (Targets 0x00010004 (0x00010000 ∷ 0x00010008 ∷ [])) 1)
   pub no_jump : Never (Fails jumping nothing_known (Targets 0x00010000 []) 0)
   pub ends : Never (Fails (start misfetch []) nothing_known (Targets 0x00010008 []) 2)
 
+-- where Dead fails, and where it doesn't
 pub record DeadRows : Type 0 where
   pub loaded : Fails stored nothing_known (Dead 0x00010004) 2
   -- another byte of the word that the first store put is its own still
@@ -340,11 +356,13 @@ pub record DeadRows : Type 0 where
   pub read : Never (Fails read_over nothing_known (Dead 0x00010008) 6)
   pub call : Never (Fails read_over nothing_known (Dead 0x00010014) 6)
 
+-- where Code fails, and where it doesn't
 pub record CodeRows : Type 0 where
   pub replaced : Fails rewriting (noting 0x00010010) Code 4
   pub unnoted : Never (Fails rewriting (noting 0x00010014) Code 4)
   pub same : Never (Fails rewriting (noting 0x0001000c) Code 3)
 
+-- where Within fails, and where it doesn't
 pub record WithinRows : Type 0 where
   pub left : Fails turns (noting 0x00010004) Within 1
   pub unnoted : Never (Fails turns (noting 0x00010004) Within 2)
@@ -360,6 +378,7 @@ pub record SpanRows : Type 0 where
 
 -- ---- loads of one value
 
+-- the start of a program whose load gives one value
 abbrev pub loading : State
 loading = start one_value []
 
@@ -367,6 +386,7 @@ loading = start one_value []
 abbrev pub loading_byte : State
 loading_byte = start (frame (0x00000297 ∷ 0x00028003 ∷ [])) []
 
+-- where Same fails, and where it doesn't
 pub record SameRows : Type 0 where
   pub other : Fails loading nothing_known (Same 0x00010008 1) 2
   pub same : Never (Fails loading nothing_known (Same 0x00010008 0) 2)
@@ -382,6 +402,7 @@ pub record SameRows : Type 0 where
 abbrev pub showing : State
 showing = start store_for_write []
 
+-- the start of the program that greets
 abbrev pub greeting : State
 greeting = start hello []
 

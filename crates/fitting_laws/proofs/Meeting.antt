@@ -7,13 +7,13 @@ use Rattle.cells.specs.declared.Cell.TheVariants.{Reg, Byte}
 use Rattle.cells.specs.Cells.{value}
 use Rattle.cells.specs.Run.{State, is_over}
 use Rattle.squash_laws.specs.Fits as seen
-use Rattle.rv_run.specs.Effect.{Effect, next, after, effect_at, is_store}
-use Rattle.rv_run.specs.Prints.{is_call, asks, is_task_call, task_effect}
-use Rattle.rv_run.proofs.Tasks.{is_call_is, own_effect, moves}
-use Rattle.rv_run.specs.Machine.{word_at, is_next, pc_after, moved}
-use Rattle.rv_run.specs.Calls.{writes}
+use Rattle.rv_semantics.specs.Effect.{Effect, next, after, effect_at, is_store}
+use Rattle.rv_semantics.specs.Prints.{is_call, asks, is_task_call, task_effect}
+use Rattle.rv_semantics.proofs.Tasks.{is_call_is, own_effect, moves}
+use Rattle.rv_semantics.specs.Machine.{word_at, is_next, pc_after, moved}
+use Rattle.rv_semantics.specs.Calls.{writes}
 use Rattle.dist_image.specs.Image.{Premise, Cut, Targets, Dead, Code, Within, Span, Same, Distilled, prints_at}
-use Rattle.image_world.specs.World.{task_machine, count_of}
+use Rattle.image_semantics.specs.World.{task_machine, count_of}
 use Rattle.fitting.specs.Claims.{among, claims, leads, same_at}
 use Rattle.fitting.specs.Fits.{Fits, IsListed, IsAimed, is_analysed}
 use Rattle.fitting.specs.Fails.{state_at, arch_at, pc_at, fetched_at, program, Fails, Meets, IsLatestWriter, IsArrival, IsStop, IsSpanned, IsRegisterJump, arrivals_after, loads_as}

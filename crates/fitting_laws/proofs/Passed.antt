@@ -8,10 +8,10 @@ use Rattle.rv_word.specs.Masks.{writes, in_mask}
 use Rattle.rv_word.proofs.Registers.{in_mask-none}
 use Rattle.cells.specs.declared.Cell.TheVariants.{Reg, Byte}
 use Rattle.cells.specs.Seen.{puts_of}
-use Rattle.rv_run.specs.Values.{register_puts}
-use Rattle.rv_run.specs.Effect.{effect, jumped, branched, sum32, holds, after, is_store}
-use Rattle.rv_run.specs.Prints.{is_call}
-use Rattle.rv_run.specs.Machine.{is_next}
+use Rattle.rv_semantics.specs.Values.{register_puts}
+use Rattle.rv_semantics.specs.Effect.{effect, jumped, branched, sum32, holds, after, is_store}
+use Rattle.rv_semantics.specs.Prints.{is_call}
+use Rattle.rv_semantics.specs.Machine.{is_next}
 use Rattle.fitting.specs.Claims.{Claims, among, sides, leads, side_left, goes_on_at}
 use Rattle.fitting.specs.Fits.{MayPass, AreApart}
 

@@ -13,17 +13,17 @@ use Rattle.cells.specs.Seen.{puts_of}
 use Rattle.speculation.specs.World.{World}
 use Rattle.squash_laws.specs.Image.{Image, Words, body, Exec as DoWord, Go as GoTo, Fork as ForkAt}
 use Rattle.squash_laws.specs.Fits as seen
-use Rattle.rv_run.specs.Values.{bytes_of}
-use Rattle.rv_run.specs.Prints.{task_reads, task_writes}
-use Rattle.rv_run.proofs.Tasks.{asks_no_other, own_effect}
-use Rattle.rv_run.proofs.Registers.{registers_below}
-use Rattle.rv_run.specs.Effect.{Effect, effect, first, second, load_count, load_from, is_store}
-use Rattle.rv_run.specs.Machine.{is_next, word_at}
+use Rattle.rv_semantics.specs.Values.{bytes_of}
+use Rattle.rv_semantics.specs.Prints.{task_reads, task_writes}
+use Rattle.rv_semantics.proofs.Tasks.{asks_no_other, own_effect}
+use Rattle.rv_semantics.proofs.Registers.{registers_below}
+use Rattle.rv_semantics.specs.Effect.{Effect, effect, first, second, load_count, load_from, is_store}
+use Rattle.rv_semantics.specs.Machine.{is_next, word_at}
 use Rattle.dist_image.specs.declared.image.Anchor.{Anchor}
 use Rattle.dist_image.specs.declared.image.Note.{Note}
 use Rattle.dist_image.specs.declared.image.Slot.TheVariants.{Exec}
 use Rattle.dist_image.specs.Image.{Distilled, IsImage, note_at, slot_of, prints_at}
-use Rattle.image_world.specs.World.{world, anchor_of}
+use Rattle.image_semantics.specs.World.{world, anchor_of}
 use Rattle.fitting.specs.Claims.{claims, same_at}
 use Rattle.fitting.specs.Fits.{Fits, IsKept, IsSet, IsDone, IsPlaced, MayPass, set_word, read_mask, write_mask, is_analysed, is_anchor_pc, live_at, need_at, body_place, instruction, goes_on}
 use Rattle.fitting.specs.Fails.{program}

@@ -8,15 +8,15 @@ use Rattle.squash_laws.specs.Fits.{Setting}
 use Rattle.rv_word.specs.Meaning.{meaning}
 use Rattle.rv_word.specs.declared.inst.Inst.{Inst}
 use Rattle.rv_word.specs.Masks.{in_mask}
-use Rattle.rv_run.specs.Effect.{effect_at, is_store}
-use Rattle.rv_run.specs.Prints.{task_reads, task_writes}
-use Rattle.rv_run.specs.Machine.{exec_in, word_at}
-use Rattle.rv_run.specs.Calls.{writes}
+use Rattle.rv_semantics.specs.Effect.{effect_at, is_store}
+use Rattle.rv_semantics.specs.Prints.{task_reads, task_writes}
+use Rattle.rv_semantics.specs.Machine.{exec_in, word_at}
+use Rattle.rv_semantics.specs.Calls.{writes}
 use Rattle.dist_image.specs.declared.image.Slot.TheVariants.{Exec, Go, Fork}
 use Rattle.dist_image.specs.declared.image.Slot.{Slot as ImageSlot}
 use Rattle.dist_image.specs.declared.image.Anchor.{Anchor}
 use Rattle.dist_image.specs.Image.{Distilled, slot_of, prints_at}
-use Rattle.image_world.specs.World.{world, why_of}
+use Rattle.image_semantics.specs.World.{world, why_of}
 use Rattle.fitting.specs.Claims.{among, claims, leads, same_at}
 use Rattle.fitting.specs.Fits.{is_analysed, live_at, need_at}
 use Rattle.fitting.specs.Fails.{loads_as, program}
@@ -32,6 +32,7 @@ words prints word = record {
   writes = λ pc w r. in_mask (task_writes prints (meaning w) pc) r;
 }
 
+-- an anchor's pc, and 0 of none
 abbrev pub pc_of : Option Anchor → ℕ
 pc_of None = 0
 pc_of (Some a) = a.pc
@@ -48,6 +49,7 @@ abbrev pub holds_as : Option ℕ → Inst → Arch → Bool
 holds_as None i s = true
 holds_as (Some n) i s = loads_as n i s
 
+-- an image as the laws of speculation see one, beside the words of its program
 abbrev pub view : (ℕ → ℕ) → Distilled → Image
 view word image = record {
   slots = λ k. shown image (slice_get image.slots k);

@@ -3,8 +3,8 @@ use Rattle.std.proofs.Common.{◌≡◌, zero, suc, true, refl, arith, inl, inr}
 use Rattle.std.specs.List.{All}
 use Rattle.cells.specs.Run.{is_over}
 use Rattle.cells.specs.Seen.{given_values}
-use Rattle.rv_run.specs.Calls.{call}
-use Rattle.rv_run.specs.Machine.{moved}
+use Rattle.rv_semantics.specs.Calls.{call}
+use Rattle.rv_semantics.specs.Machine.{moved}
 use Rattle.dist_image.specs.Image.{IsImage, IsSlot, IsAnchor, IsNote}
 use Rattle.fitting.specs.Fits.{Fits}
 use Rattle.fitting.specs.Fails.{state_at, program, Meets}

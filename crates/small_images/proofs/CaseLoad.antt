@@ -5,8 +5,8 @@ use Rattle.std.specs.List.{All}
 use Rattle.std.specs.List.Sorted.{IsStrictlyIncreasing}
 use Rattle.cells.specs.Run.{is_over}
 use Rattle.cells.specs.Seen.{given_values}
-use Rattle.rv_run.specs.Calls.{call}
-use Rattle.rv_run.specs.Machine.{moved}
+use Rattle.rv_semantics.specs.Calls.{call}
+use Rattle.rv_semantics.specs.Machine.{moved}
 use Rattle.dist_image.specs.declared.image.Note.{Note}
 use Rattle.dist_image.specs.declared.image.Slot.{Slot}
 use Rattle.dist_image.specs.declared.image.Slot.TheVariants.{Exec}

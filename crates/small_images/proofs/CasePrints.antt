@@ -7,11 +7,11 @@ use Rattle.cells.specs.Cells.{IsPc}
 use Rattle.cells.specs.Run.{is_over}
 use Rattle.cells.specs.Seen.{given_values}
 use Rattle.speculation.specs.Engine.{happens}
-use Rattle.rv_run.specs.Calls.{call, write}
-use Rattle.rv_run.specs.Machine.{moved}
+use Rattle.rv_semantics.specs.Calls.{call, write}
+use Rattle.rv_semantics.specs.Machine.{moved}
 use Rattle.dist_image.specs.declared.image.Note.{Note}
 use Rattle.dist_image.specs.Image.{IsImage, IsSlot, IsAnchor, IsNote}
-use Rattle.image_world.specs.World.{begin}
+use Rattle.image_semantics.specs.World.{begin}
 use Rattle.fitting.specs.Fits.{Fits}
 use Rattle.fitting.specs.Fails.{state_at, program, Meets}
 use Rattle.fitting.proofs.Masked.{apart}

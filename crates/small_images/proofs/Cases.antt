@@ -8,7 +8,7 @@ use Rattle.speculation.specs.Engine.{fresh, run}
 use Rattle.speculation.proofs.Keeps.{run_keeps, fresh_holds}
 use Rattle.squash_laws.proofs.Safe.{happens_safe, run_tracks, fresh_tracks}
 use Rattle.dist_image.specs.Image.{Premise, Code, Within, Span, Distilled, IsPremise, IsKnownAtFirst, key_of}
-use Rattle.image_world.specs.World.{world}
+use Rattle.image_semantics.specs.World.{world}
 use Rattle.fitting.specs.Fails.{state_at, Fails}
 use Rattle.fitting.proofs.Each.{OfEach, by_number}
 use Rattle.fitting_laws.specs.Setting.{setting}

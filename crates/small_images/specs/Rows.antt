@@ -8,16 +8,17 @@ use Rattle.speculation.specs.declared.Event.{Event}
 use Rattle.speculation.specs.declared.Event.TheVariants.{Serial as SerialEvent, Slave, Restart}
 use Rattle.speculation.specs.Engine.{happens, fresh, effects}
 use Rattle.squash_laws.specs.Tracks.{IsSafe}
-use Rattle.rv_run.specs.Start.{start}
-use Rattle.rv_run.specs.Programs.{frame, exit_7, hello}
+use Rattle.rv_semantics.specs.Start.{start}
+use Rattle.rv_semantics.specs.Programs.{frame, exit_7, hello}
 use Rattle.dist_image.specs.declared.image.Slot.TheVariants.{Exec, Fork}
 use Rattle.dist_image.specs.Image.{Code, Within, Span, Same, Distilled, IsImage}
-use Rattle.image_world.specs.World.{world}
+use Rattle.image_semantics.specs.World.{world}
 use Rattle.fitting.specs.Fits.{Fits}
 use Rattle.fitting.specs.Fails.{program, Meets}
 use Rattle.fitting.specs.Rows.{anchor, note}
 use Rattle.fitting_laws.specs.Laws.{after_events}
 
+-- the start of the program that exits with 7
 abbrev pub exiting : State
 exiting = start exit_7 []
 
@@ -37,6 +38,7 @@ exit_image = record {
 abbrev pub greeting : State
 greeting = start hello []
 
+-- an image of the greeting whose task does the call
 abbrev pub greeting_image : Distilled
 greeting_image = record {
   version = 2;
@@ -52,6 +54,7 @@ greeting_image = record {
 abbrev pub reading : State
 reading = start (frame (0x000203B7 ∷ 0x0003A503 ∷ 0x05D00893 ∷ 0x00000073 ∷ [])) []
 
+-- an image of a program that reads between its writes
 abbrev pub reading_image : Distilled
 reading_image = record {
   version = 2;

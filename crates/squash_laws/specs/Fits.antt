@@ -32,6 +32,7 @@ pub record IsPassed (w : World) (ws : Words) (im : Image) (p : ℕ) : Type 0 whe
   pub goes_on : (s : Arch) → s.pc ≡ p → (ws.exec (ws.program p)).stops s ≡ false
   pub bytes : (s : Arch) (a : ℕ) → s.pc ≡ p → ws.word s ≡ ws.program p → (ws.exec (ws.program p)).writes s (Byte a) ≡ true → im.dead s ≡ true
 
+-- an image fits the words of a machine
 pub record Fits (w : World) (ws : Words) (im : Image) : Type 0 where
   pub anchor_note : (p : ℕ) → is_anchor w p ≡ true → im.has p ≡ true
   pub anchor_slot : (p : ℕ) → is_anchor w p ≡ true → im.slots (im.slot_of p) ≡ Some (Fork p)
@@ -49,9 +50,11 @@ pub record Setting : Type 0 where
   pub puts : State → Cell → Bool
   pub reach : ℕ
 
+-- the run's registers, pc and memory at position k
 abbrev pub arch_at : World → ℕ → Arch
 arch_at w k = (seq w k).arch
 
+-- the run's pc at position k
 abbrev pub pc_at : World → ℕ → ℕ
 pc_at w k = (seq w k).arch.pc
 

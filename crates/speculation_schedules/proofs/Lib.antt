@@ -1,0 +1,5 @@
+pub mod Exchanged
+pub mod After
+pub mod Rounds
+pub mod Near
+pub mod Stops
