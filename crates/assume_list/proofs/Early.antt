@@ -3,8 +3,8 @@ use Rattle.std.proofs.Common.{◌≡◌, ℕ, zero, suc, ◌+◌, ◌-◌, ◌<�
 use Rattle.std.specs.Prelude.{nat_eq, nat_lt, min}
 use Rattle.std.specs.List.{filter}
 use Rattle.std.proofs.lemmas.Bool.{ne_eqb, eqb-true, eqb-false, lt-ltb, ltb-true, ltb-false, le-ltb}
-use Rattle.assume_laws.specs.declared.Waiting.{Waiting}
-use Rattle.assume_laws.specs.Waits.{lower, lowered, is_overdue}
+use Rattle.assumption_laws.specs.declared.Waiting.{Waiting}
+use Rattle.assumption_laws.specs.Waits.{lower, lowered, is_overdue}
 use Rattle.assume_list.specs.declared.waits.Wait.{Wait}
 use Rattle.assume_list.specs.Shown.{IsEarly, shown_in}
 

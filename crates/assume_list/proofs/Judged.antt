@@ -6,10 +6,10 @@ use Rattle.cells.specs.Run.{State, is_over}
 use Rattle.dist_image.specs.Image.{Premise, Cut, Targets, Dead, Code, Within, Span, Same, Distilled, IsImage}
 use Rattle.fitting.specs.Fits.{IsListed}
 use Rattle.fitting.specs.Fails.{state_at, Meets, IsBroken}
-use Rattle.assume_laws.specs.declared.Waiting.{Waiting}
-use Rattle.assume_laws.specs.Looks.{first_from, first_failing}
-use Rattle.assume_laws.proofs.Spans.{going_before}
-use Rattle.assume_laws.proofs.Verdicts.{verdict_is_told}
+use Rattle.assumption_laws.specs.declared.Waiting.{Waiting}
+use Rattle.assumption_laws.specs.Looks.{first_from, first_failing}
+use Rattle.assumption_laws.proofs.Spans.{going_before}
+use Rattle.assumption_laws.proofs.Verdicts.{verdict_is_told}
 use Rattle.assume_list.specs.declared.verdict.Verdict.TheVariants.{Met, Broken}
 use Rattle.assume_list.specs.Passes.{is_span, asked_below, bound_of, or_late, IsReached, IsClean, IsLate, IsFailed, IsThrough, IsAwaited}
 use Rattle.assume_list.specs.Verdicts.{IsLesser, IsVerdict, VerdictIsOne}

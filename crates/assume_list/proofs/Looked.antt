@@ -4,13 +4,13 @@ use Rattle.std.specs.Prelude.{IsNone}
 use Rattle.cells.specs.declared.End.{End}
 use Rattle.cells.specs.Run.{State, is_over, is_end}
 use Rattle.rv_word.specs.Meaning.{meaning}
-use Rattle.rv_run.specs.Machine.{word_at}
-use Rattle.rv_run.specs.Calls.{step}
+use Rattle.rv_semantics.specs.Machine.{word_at}
+use Rattle.rv_semantics.specs.Calls.{step}
 use Rattle.dist_image.specs.Image.{Premise, Cut, Targets, Dead, Code, Within, Span, Same, Distilled, prints_at}
-use Rattle.image_world.specs.World.{task_machine}
+use Rattle.image_semantics.specs.World.{task_machine}
 use Rattle.fitting.specs.Claims.{among}
 use Rattle.profile_laws.specs.Tally.{Span as Bytes, span, places, bytes_in, loaded}
-use Rattle.assume_laws.specs.Looks.{read_bytes, fails_by, first_from}
+use Rattle.assumption_laws.specs.Looks.{read_bytes, fails_by, first_from}
 use Rattle.assume_list.specs.declared.sight.Sight.{Sight}
 use Rattle.assume_list.specs.Sights.{seen, look_in, is_stopping_call}
 use Rattle.assume_list.proofs.Stops.{stops_is}

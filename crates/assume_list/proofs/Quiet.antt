@@ -11,7 +11,7 @@ use Rattle.dist_image.specs.declared.image.Assumption.{Assumption}
 use Rattle.dist_image.specs.Image.{Premise, Cut, Targets, Dead, Code, Within, Span, Same, premise, key_of}
 use Rattle.dist_image.proofs.Search.{rising, found_has, absent}
 use Rattle.fitting.specs.Claims.{among}
-use Rattle.assume_laws.specs.Looks.{Look, is_side, is_other, fails_by, first_from}
+use Rattle.assumption_laws.specs.Looks.{Look, is_side, is_other, fails_by, first_from}
 use Rattle.assume_list.specs.Sights.{is_code, is_within, is_same}
 
 -- ---- lists

@@ -1,15 +1,15 @@
 -- Looks that differ in marks alone which no listed assumption asks for tell the same.
 use Rattle.std.proofs.Common.{◌≡◌, ℕ, zero, suc, ◌+◌, Bool, true, false, ◌||◌, cond, List, [], ◌∷◌, map, Option, Some, refl, sym, ap, ◌∙◌, arith}
-use Rattle.rv_run.specs.Effect.{is_store}
+use Rattle.rv_semantics.specs.Effect.{is_store}
 use Rattle.std.specs.Prelude.{nat_eq, slice_get}
 use Rattle.std.proofs.lemmas.Bool.{eq-eqb, ne_eqb}
 use Rattle.rv_word.specs.Meaning.{meaning}
 use Rattle.cells.specs.Run.{State}
-use Rattle.rv_run.specs.Machine.{word_at}
+use Rattle.rv_semantics.specs.Machine.{word_at}
 use Rattle.dist_image.specs.Image.{Premise, Cut, Targets, Dead, Code, Within, Span, Same}
 use Rattle.fitting.specs.Claims.{among}
 use Rattle.profile_laws.specs.Tally.{bytes_in, stored}
-use Rattle.assume_laws.specs.Looks.{Look, fails_by, first_from}
+use Rattle.assumption_laws.specs.Looks.{Look, fails_by, first_from}
 use Rattle.assume_list.specs.Marks.{with_dead, counted}
 use Rattle.assume_list.specs.Sights.{marks_after}
 

@@ -10,14 +10,14 @@ use Rattle.cells.specs.declared.Cell.TheVariants.{Reg}
 use Rattle.cells.specs.Cells.{value}
 use Rattle.cells.specs.Bytes.{number}
 use Rattle.cells.specs.Run.{State, is_over, printed}
-use Rattle.rv_run.specs.declared.Flow.{Flow}
-use Rattle.rv_run.specs.declared.Flow.TheVariants.{Next, Call, Break, Illegal, Misfetch}
-use Rattle.rv_run.specs.Values.{bytes_of}
-use Rattle.rv_run.specs.Effect.{effect, effect_at, next, jumped, branched, holds, sum32, first, second, load_count, load_from}
-use Rattle.rv_run.specs.Prints.{is_call, is_task_call}
-use Rattle.rv_run.specs.Machine.{machine, machine_in, word_at, is_next}
-use Rattle.rv_run.specs.Calls.{step, call, stopped, flow_at}
-use Rattle.rv_run.proofs.Tasks.{moves}
+use Rattle.rv_semantics.specs.declared.Flow.{Flow}
+use Rattle.rv_semantics.specs.declared.Flow.TheVariants.{Next, Call, Break, Illegal, Misfetch}
+use Rattle.rv_semantics.specs.Values.{bytes_of}
+use Rattle.rv_semantics.specs.Effect.{effect, effect_at, next, jumped, branched, holds, sum32, first, second, load_count, load_from}
+use Rattle.rv_semantics.specs.Prints.{is_call, is_task_call}
+use Rattle.rv_semantics.specs.Machine.{machine, machine_in, word_at, is_next}
+use Rattle.rv_semantics.specs.Calls.{step, call, stopped, flow_at}
+use Rattle.rv_semantics.proofs.Tasks.{moves}
 use Rattle.assume_list.specs.Sights.{is_stopping_call}
 
 abbrev is_calling : Flow → Bool

@@ -4,17 +4,17 @@ use Rattle.std.specs.Prelude.{nat_eq, nat_lt}
 use Rattle.std.proofs.lemmas.Bool.{eqb-true, lt-ltb, ltb-true, le-ltb, or_cases, and_parts, not-true, cases_eq, cases_lt}
 use Rattle.cells.specs.declared.End.{End}
 use Rattle.cells.specs.Run.{State, is_over, is_end}
-use Rattle.rv_run.specs.Calls.{step}
+use Rattle.rv_semantics.specs.Calls.{step}
 use Rattle.dist_image.specs.Image.{Distilled, IsImage}
-use Rattle.image_world.specs.World.{task_machine, count_of}
+use Rattle.image_semantics.specs.World.{task_machine, count_of}
 use Rattle.fitting.specs.Fits.{is_anchor_pc}
 use Rattle.fitting.specs.Fails.{state_at, arch_at, pc_at}
-use Rattle.assume_laws.specs.declared.Waiting.{Waiting}
-use Rattle.assume_laws.specs.Looks.{first_failing, span_fails}
-use Rattle.assume_laws.specs.Waits.{passed_on, joined, is_overdue, waiting, at_hand, overdue}
-use Rattle.assume_laws.specs.Laws.{IsSearched}
-use Rattle.assume_laws.proofs.Spans.{going_before}
-use Rattle.assume_laws.proofs.Waits.{waits_tell}
+use Rattle.assumption_laws.specs.declared.Waiting.{Waiting}
+use Rattle.assumption_laws.specs.Looks.{first_failing, span_fails}
+use Rattle.assumption_laws.specs.Waits.{passed_on, joined, is_overdue, waiting, at_hand, overdue}
+use Rattle.assumption_laws.specs.Laws.{IsSearched}
+use Rattle.assumption_laws.proofs.Spans.{going_before}
+use Rattle.assumption_laws.proofs.Waits.{waits_tell}
 use Rattle.assume_list.specs.Passes.{HasTurned, asked_below, bound_after, IsReached, IsClean, IsLate, IsFailed, IsAwaited, IsAwake}
 
 pub overdue_near : (limit j : ℕ) (ws : List Waiting) → is_overdue limit j ws ≡ true → limit ≤ j

@@ -1,19 +1,19 @@
 -- What is kept of a run while it is looked at.
 use Rattle.std.proofs.Common.{◌≡◌, ℕ, suc, ◌+◌, Bool, cond, map, Some, refl, sym, ap, ◌∙◌, arith}
-use Rattle.rv_run.specs.Effect.{is_store}
+use Rattle.rv_semantics.specs.Effect.{is_store}
 use Rattle.std.specs.Prelude.{nat_eq, slice_get}
 use Rattle.cells.specs.Bytes.{number}
 use Rattle.cells.specs.Run.{State}
 use Rattle.rv_word.specs.Meaning.{meaning}
-use Rattle.rv_run.specs.Machine.{word_at}
-use Rattle.rv_run.specs.Calls.{step}
-use Rattle.rv_run.specs.Prints.{nowhere}
+use Rattle.rv_semantics.specs.Machine.{word_at}
+use Rattle.rv_semantics.specs.Calls.{step}
+use Rattle.rv_semantics.specs.Prints.{nowhere}
 use Rattle.fitting.specs.Claims.{among}
 use Rattle.dist_image.specs.Image.{Premise, Cut, Targets, Dead, Code, Within, Span, Same, Distilled}
 use Rattle.fitting.specs.Fits.{is_analysed}
 use Rattle.fitting.specs.Fails.{state_at}
 use Rattle.profile_laws.specs.Tally.{bytes_in, stored, kept}
-use Rattle.assume_laws.specs.Looks.{read_bytes, fails_by, first_from, first_failing}
+use Rattle.assumption_laws.specs.Looks.{read_bytes, fails_by, first_from, first_failing}
 use Rattle.assume_list.specs.Marks.{dead_in, counted}
 use Rattle.assume_list.specs.Sights.{look_in, marks_after}
 use Rattle.assume_list.specs.Watched.{IsWatched}

@@ -8,6 +8,7 @@ with_dead [] m = m
 with_dead (Dead at ∷ xs) m = with_dead xs (λ b. cond (nat_eq at b) 1 (m b))
 with_dead (_ ∷ xs) m = with_dead xs m
 
+-- for each pc of a listed dead store its number in the list, one up, and else 0
 abbrev pub dead_in : List Premise → ℕ → ℕ
 dead_in xs = with_dead xs (λ _. 0)
 

@@ -3,10 +3,10 @@ use Rattle.std.specs.Prelude.{◌≡◌, ℕ, ◌+◌, ◌<◌, ◌≤◌, min, 
 use Rattle.cells.specs.Run.{State, is_over}
 use Rattle.dist_image.specs.Image.{Premise, Span, Distilled}
 use Rattle.fitting.specs.Fails.{state_at}
-use Rattle.assume_laws.specs.declared.Waiting.{Waiting}
-use Rattle.assume_laws.specs.Looks.{first_failing, span_fails}
-use Rattle.assume_laws.specs.Waits.{passed_on, joined, is_overdue, waiting}
-use Rattle.assume_laws.specs.Laws.{IsSearched}
+use Rattle.assumption_laws.specs.declared.Waiting.{Waiting}
+use Rattle.assumption_laws.specs.Looks.{first_failing, span_fails}
+use Rattle.assumption_laws.specs.Waits.{passed_on, joined, is_overdue, waiting}
+use Rattle.assumption_laws.specs.Laws.{IsSearched}
 use Rattle.assume_list.specs.declared.verdict.Verdict.{Verdict}
 use Rattle.assume_list.specs.declared.verdict.Verdict.TheVariants.{Broken}
 use Rattle.assume_list.specs.declared.passing.Passed.{Passed}
@@ -28,6 +28,7 @@ abbrev pub bound_after : Option ℕ → ℕ → ℕ → ℕ → ℕ
 bound_after None span bound position = bound
 bound_after (Some k) span bound position = min bound (asked_below k span position)
 
+-- whether an assumption is Span
 abbrev pub is_span : Premise → Bool
 is_span Span = true
 is_span _ = false

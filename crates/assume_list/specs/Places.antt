@@ -1,12 +1,13 @@
 -- What is kept of what an image says of addresses.
 use Rattle.std.specs.Prelude.{ℕ, ◌≡◌, ◌≤◌, not, nat_eq, Some, length, All}
 use Rattle.dist_image.specs.Image.{Distilled, prints_at}
-use Rattle.image_world.specs.World.{count_of}
+use Rattle.image_semantics.specs.World.{count_of}
 use Rattle.fitting.specs.Fits.{is_analysed}
 use Rattle.assume_list.specs.declared.pcs.Said.{Said}
 use Rattle.assume_list.specs.declared.pcs.Pcs.{Pcs}
 use Rattle.assume_list.specs.Marks.{dead_in}
 
+-- what was found of a pc is what the image has of it
 pub record Tells (image : Distilled) (s : Said) : Type 0 where
   pub noted : s.noted ≡ is_analysed image s.pc
   pub count : s.count ≡ count_of image s.pc

@@ -1,6 +1,6 @@
 -- The anchors that wait, by the entries that are kept of them.
 use Rattle.std.specs.Prelude.{ℕ, ◌+◌, ◌-◌, ◌≤◌, cond, nat_lt, List, [], ◌∷◌}
-use Rattle.assume_laws.specs.declared.Waiting.{Waiting}
+use Rattle.assumption_laws.specs.declared.Waiting.{Waiting}
 use Rattle.assume_list.specs.declared.waits.Wait.{Wait}
 use Rattle.assume_list.specs.declared.waits.Waits.{Waits}
 
@@ -14,5 +14,6 @@ abbrev pub shown_in : ℕ → List Wait → List Waiting
 shown_in arrivals [] = []
 shown_in arrivals (w ∷ ws) = cond (nat_lt arrivals w.last) (record { since = w.since; left = w.last - arrivals } ∷ shown_in arrivals ws) (shown_in arrivals ws)
 
+-- the anchors that wait, as the definition lists them
 abbrev pub shown : Waits → List Waiting
 shown w = shown_in w.arrivals w.list.items

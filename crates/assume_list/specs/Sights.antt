@@ -1,20 +1,21 @@
 -- What is seen of a position, and the marks after its step.
 use Rattle.std.specs.Prelude.{ℕ, ◌+◌, Bool, true, false, not, ◌&&◌, List, if◌then◌else◌}
-use Rattle.rv_run.specs.Effect.{is_store}
+use Rattle.rv_semantics.specs.Effect.{is_store}
 use Rattle.rv_word.specs.declared.inst.Inst.{Inst}
 use Rattle.rv_word.specs.Meaning.{meaning}
 use Rattle.cells.specs.Cells.{Arch, value}
 use Rattle.cells.specs.Run.{State}
-use Rattle.rv_run.specs.Prints.{is_call, is_task_call}
-use Rattle.rv_run.specs.Machine.{word_at}
-use Rattle.rv_run.specs.Calls.{step}
+use Rattle.rv_semantics.specs.Prints.{is_call, is_task_call}
+use Rattle.rv_semantics.specs.Machine.{word_at}
+use Rattle.rv_semantics.specs.Calls.{step}
 use Rattle.dist_image.specs.Image.{Premise, Code, Within, Same, Distilled}
 use Rattle.fitting.specs.Claims.{among}
 use Rattle.profile_laws.specs.Tally.{bytes_in, stored}
-use Rattle.assume_laws.specs.Looks.{Look, look}
+use Rattle.assumption_laws.specs.Looks.{Look, look}
 use Rattle.assume_list.specs.declared.sight.Sight.{Sight}
 use Rattle.assume_list.specs.Marks.{counted}
 
+-- what the test of assumptions sees of a position, in the definition's words
 abbrev pub seen : Sight → List ℕ → Look
 seen v marks = record {
   pc = v.pc;
@@ -29,14 +30,17 @@ seen v marks = record {
   marks = marks;
 }
 
+-- whether an assumption is Code
 abbrev pub is_code : Premise → Bool
 is_code Code = true
 is_code _ = false
 
+-- whether an assumption is Within
 abbrev pub is_within : Premise → Bool
 is_within Within = true
 is_within _ = false
 
+-- whether an assumption is Same
 abbrev pub is_same : Premise → Bool
 is_same (Same at value) = true
 is_same _ = false

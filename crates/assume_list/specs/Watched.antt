@@ -2,7 +2,7 @@
 use Rattle.std.specs.Prelude.{◌≡◌, ℕ, Bool}
 use Rattle.cells.specs.Run.{State}
 use Rattle.dist_image.specs.Image.{Distilled}
-use Rattle.rv_run.specs.Prints.{nowhere}
+use Rattle.rv_semantics.specs.Prints.{nowhere}
 use Rattle.fitting.specs.Fits.{is_analysed}
 use Rattle.fitting.specs.Fails.{state_at}
 use Rattle.profile_laws.specs.Tally.{kept}

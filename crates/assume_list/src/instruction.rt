@@ -5,12 +5,12 @@ ghost use Rattle.rv_word.specs.Spelling.{IsWellFormed};
 ghost use Rattle.seq_machine.specs.States.{arch_at};
 ghost use Rattle.profile_laws.specs.Tally.{is_register_jump};
 ghost use Rattle.profile_laws.specs.Profiles.{with_mark};
-ghost use Rattle.assume_laws.specs.Looks.{side, load_of};
-ghost use Rattle.rv_run.specs.Prints.{is_call};
+ghost use Rattle.assumption_laws.specs.Looks.{side, load_of};
+ghost use Rattle.rv_semantics.specs.Prints.{is_call};
 ghost use Rattle.assume_list.specs.Sights.{is_stopping_call};
 
+use access_trace::{is_taken, is_task_call, number_at, register};
 use memory::Memory;
-use memory_access::{is_taken, is_task_call, number_at, register};
 use rv_step::Arch;
 use rv_word::Inst;
 

@@ -2,9 +2,9 @@
 
 ghost use Rattle.std.specs.Prelude.{◌≡◌, ℕ, ◌<◌, ◌≤◌, Some, not, nat_eq, IfOk};
 ghost use Rattle.dist_image.specs.Image.{IsImage, prints_at};
-ghost use Rattle.image_world.specs.World.{count_of};
+ghost use Rattle.image_semantics.specs.World.{count_of};
 ghost use Rattle.fitting.specs.Fits.{is_analysed};
-ghost use Rattle.rv_run.specs.Prints.{asks};
+ghost use Rattle.rv_semantics.specs.Prints.{asks};
 ghost use Rattle.assume_list.specs.Marks.{dead_in};
 ghost use Rattle.assume_list.specs.Places.{Tells, AreKnown};
 

@@ -3,10 +3,10 @@
 ghost use Rattle.std.specs.Prelude.{◌≡◌, ℕ, ◌+◌, [], ◌∷◌, ◌++◌, map, OnOk};
 ghost use Rattle.fitting.specs.Claims.{among};
 ghost use Rattle.profile_laws.specs.Tally.{places};
-ghost use Rattle.memory_access.specs.Shadows.{mark_at};
+ghost use Rattle.access_trace.specs.Shadows.{mark_at};
 
+use access_trace::{ByteRange, Shadow};
 use memory::Memory;
-use memory_access::{Shadow, Span};
 use std::alloc::AllocError;
 
 // Appends a mark, unless it is 0.
@@ -25,7 +25,7 @@ fn append_one(mark: u32, to: &mut Vec<u32>) -> Result<(), AllocError>
 #[inline(never)]
 fn append_each<M: Memory>(
     shadow: &Shadow<M>,
-    span: Span,
+    span: ByteRange,
     to: &mut Vec<u32>,
 ) -> Result<(), AllocError>
     ensures { OnOk result ((at : ℕ) → among to.new.items (at + 1) ≡ among (to.old.items ++ map (mark_at M.at shadow.now) (places span.count span.from)) (at + 1)) }
@@ -38,7 +38,11 @@ fn append_each<M: Memory>(
 
 // Appends the marks of a span, but for 0. A mark that is seen at once to be that of each byte is appended once.
 #[inline(always)]
-fn append<M: Memory>(shadow: &Shadow<M>, span: Span, to: &mut Vec<u32>) -> Result<(), AllocError>
+fn append<M: Memory>(
+    shadow: &Shadow<M>,
+    span: ByteRange,
+    to: &mut Vec<u32>,
+) -> Result<(), AllocError>
     ensures { OnOk result ((at : ℕ) → among to.new.items (at + 1) ≡ among (to.old.items ++ map (mark_at M.at shadow.now) (places span.count span.from)) (at + 1)) }
 {
     if span.count == 0 {
@@ -54,12 +58,12 @@ fn append<M: Memory>(shadow: &Shadow<M>, span: Span, to: &mut Vec<u32>) -> Resul
 pub(crate) fn read_marks<M: Memory>(
     marks: &Shadow<M>,
     pc: u32,
-    loads: Span,
+    loads: ByteRange,
     read: &mut Vec<u32>,
 ) -> Result<(), AllocError>
     ensures { OnOk result ((at : ℕ) → among read.new.items (at + 1) ≡ among (map (mark_at M.at marks.now) (places 4 pc ++ places loads.count loads.from)) (at + 1)) }
 {
     read.clear();
-    append(marks, Span { count: 4, from: pc }, read)?;
+    append(marks, ByteRange { count: 4, from: pc }, read)?;
     append(marks, loads, read)
 }

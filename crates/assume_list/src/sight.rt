@@ -6,8 +6,8 @@ ghost use Rattle.std.specs.List.Sorted.{IsStrictlyIncreasing};
 ghost use Rattle.dist_image.specs.Image.{Premise, Cut, Targets, Same, premise, key_of, IsPremise, IsImage};
 ghost use Rattle.fitting.specs.Claims.{among};
 ghost use Rattle.fitting.specs.Fits.{is_analysed};
-ghost use Rattle.image_world.specs.World.{count_of};
-ghost use Rattle.assume_laws.specs.Looks.{is_other, fails_by, first_from};
+ghost use Rattle.image_semantics.specs.World.{count_of};
+ghost use Rattle.assumption_laws.specs.Looks.{is_other, fails_by, first_from};
 ghost use Rattle.assume_list.specs.Marks.{dead_in};
 ghost use Rattle.assume_list.specs.Sights.{seen, is_code, is_within, is_same};
 

@@ -2,7 +2,7 @@
 
 ghost use Rattle.std.specs.Prelude.{◌≡◌, ℕ, ◌+◌, ◌<◌, ◌≤◌, ◌^◌, false, nat_lt, Some, [], length, IfOk, OnOk};
 ghost use Rattle.std.specs.List.{filter};
-ghost use Rattle.assume_laws.specs.Waits.{passed_on, joined, is_overdue};
+ghost use Rattle.assumption_laws.specs.Waits.{passed_on, joined, is_overdue};
 ghost use Rattle.assume_list.specs.Shown.{IsEarly, shown_in, shown};
 
 use std::alloc::{AllocError, Global};

@@ -1,22 +1,22 @@
 //! The run, looked at position after position.
 
 ghost use Rattle.std.specs.Prelude.{◌≡◌, ℕ, ◌+◌, ◌-◌, ◌%◌, ◌<◌, ◌≤◌, ◌^◌, ◌||◌, ◌&&◌, Bool, not, nat_eq, IfOk, OnOk, IsNone, if◌then◌else◌};
-ghost use Rattle.rv_run.specs.Effect.{is_store};
+ghost use Rattle.rv_semantics.specs.Effect.{is_store};
 ghost use Rattle.std.specs.List.{list_any};
 ghost use Rattle.cells.specs.Bytes.{number};
 ghost use Rattle.cells.specs.Run.{is_end};
 ghost use Rattle.rv_word.specs.Meaning.{meaning};
-ghost use Rattle.rv_run.specs.Machine.{word_at};
-ghost use Rattle.rv_run.specs.Calls.{step as next_state};
+ghost use Rattle.rv_semantics.specs.Machine.{word_at};
+ghost use Rattle.rv_semantics.specs.Calls.{step as next_state};
 ghost use Rattle.seq_machine.specs.States.{arch_at, state_of};
 ghost use Rattle.profile_laws.specs.Tally.{places, loaded, stored, is_register_jump};
 ghost use Rattle.dist_image.specs.Image.{IsImage, prints_at};
-ghost use Rattle.image_world.specs.World.{task_machine};
-ghost use Rattle.assume_laws.specs.Looks.{side, load_of, fails_by, first_from};
+ghost use Rattle.image_semantics.specs.World.{task_machine};
+ghost use Rattle.assumption_laws.specs.Looks.{side, load_of, fails_by, first_from};
 ghost use Rattle.fitting.specs.Claims.{among};
 ghost use Rattle.fitting.specs.Fits.{is_analysed};
-ghost use Rattle.memory_access.specs.Spans.{span_of};
-ghost use Rattle.memory_access.specs.Shadows.{mark_at};
+ghost use Rattle.access_trace.specs.Spans.{span_of};
+ghost use Rattle.access_trace.specs.Shadows.{mark_at};
 ghost use Rattle.assume_list.specs.Marks.{counted, dead_in};
 ghost use Rattle.assume_list.specs.Places.{AreKnown};
 ghost use Rattle.assume_list.specs.Watched.{IsWatched};
@@ -26,10 +26,10 @@ use crate::instruction::{is_register_jump, is_stopping_call, load_of, side};
 use crate::pcs::Pcs;
 use crate::read::read_marks;
 use crate::sight::{Listed, Sight, first_failing, is_analysed, look_up};
+use access_trace::{ByteRange, Shadow, is_store, loaded, stored};
 use cells::End;
 use dist_image::Image;
 use memory::Memory;
-use memory_access::{Shadow, Span, is_store, loaded, stored};
 use rv_word::decode;
 use seq_machine::Machine;
 use std::alloc::{AllocError, Global};
@@ -43,8 +43,8 @@ struct Coming {
     jumps: bool,
     changed: bool,
     load: Option<u32>,
-    loads: Span,
-    puts: Span,
+    loads: ByteRange,
+    puts: ByteRange,
     stores: bool,
 }
 

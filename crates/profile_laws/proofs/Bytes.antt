@@ -18,12 +18,12 @@ use Rattle.cells.specs.Cells.{Arch, value}
 use Rattle.cells.specs.Bytes.{byte_cells, byte_puts}
 use Rattle.cells.specs.Run.{State}
 use Rattle.cells.specs.Seen.{among as is_cell_of, puts_of, or_first}
-use Rattle.rv_run.specs.Values.{register_cell, register_puts}
-use Rattle.rv_run.specs.Effect.{Effect, effect_at, cells, first, second, holds, load_count, load_from, store_size, sum32, jumped, branched, after}
-use Rattle.rv_run.specs.Prints.{is_short_write, is_call, asks, arguments, task_cells}
-use Rattle.rv_run.proofs.Tasks.{is_call_is}
-use Rattle.rv_run.specs.Machine.{machine_in, word_at, is_next}
-use Rattle.rv_run.specs.Calls.{writes, stop_puts, call_puts, read_count}
+use Rattle.rv_semantics.specs.Values.{register_cell, register_puts}
+use Rattle.rv_semantics.specs.Effect.{Effect, effect_at, cells, first, second, holds, load_count, load_from, store_size, sum32, jumped, branched, after}
+use Rattle.rv_semantics.specs.Prints.{is_short_write, is_call, asks, arguments, task_cells}
+use Rattle.rv_semantics.proofs.Tasks.{is_call_is}
+use Rattle.rv_semantics.specs.Machine.{machine_in, word_at, is_next}
+use Rattle.rv_semantics.specs.Calls.{writes, stop_puts, call_puts, read_count}
 use Rattle.fitting.specs.Claims.{among}
 use Rattle.profile_laws.specs.Tally.{places, span, no_bytes, bytes_in, loaded, taken_in, stored}
 

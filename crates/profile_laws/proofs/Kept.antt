@@ -1,6 +1,6 @@
 -- The tally's rows are those of the pcs in order, and each of them is kept by itself.
 use Rattle.std.proofs.Common.{◌≡◌, ℕ, zero, suc, ◌+◌, Bool, true, false, ◌||◌, cond, List, [], ◌∷◌, map, refl, sym, ap, ◌∙◌, arith}
-use Rattle.rv_run.specs.Effect.{is_store}
+use Rattle.rv_semantics.specs.Effect.{is_store}
 use Rattle.std.specs.Prelude.{nat_eq}
 use Rattle.std.proofs.lemmas.Bool.{or_parts, or_from, cond-false}
 use Rattle.cells.specs.Run.{State}

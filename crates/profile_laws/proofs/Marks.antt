@@ -1,10 +1,10 @@
 -- A byte is marked with the pc of the store that wrote it last.
 use Rattle.std.proofs.Common.{◌≡◌, ℕ, zero, suc, ◌+◌, ◌<◌, Bool, true, false, cond, refl, sym, ap, ◌∙◌, subst, ⊎_elim, true≢false, arith}
-use Rattle.rv_run.specs.Effect.{is_store}
+use Rattle.rv_semantics.specs.Effect.{is_store}
 use Rattle.std.proofs.lemmas.Bool.{eqb-true, eq-eqb, cases_eq}
 use Rattle.cells.specs.declared.Cell.TheVariants.{Byte}
 use Rattle.cells.specs.Run.{State}
-use Rattle.rv_run.specs.Calls.{writes}
+use Rattle.rv_semantics.specs.Calls.{writes}
 use Rattle.fitting.specs.Claims.{among}
 use Rattle.fitting.specs.Fails.{state_at, pc_at, fetched_at, IsLatestWriter}
 use Rattle.profile_laws.specs.Tally.{bytes_in, kept, visit_at}

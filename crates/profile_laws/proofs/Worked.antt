@@ -1,7 +1,7 @@
 -- Profiles by running the definitions.
 use Rattle.std.proofs.Common.{refl}
-use Rattle.rv_run.specs.Calls.{call, read, write}
-use Rattle.rv_run.specs.Machine.{moved}
+use Rattle.rv_semantics.specs.Calls.{call, read, write}
+use Rattle.rv_semantics.specs.Machine.{moved}
 use Rattle.cells.specs.Seen.{given_values}
 use Rattle.profile_laws.specs.Tally.{places, kept}
 use Rattle.profile_laws.specs.Rows.{RewritingRow, NeverTrueRow, ShowingRows, AsideRow}

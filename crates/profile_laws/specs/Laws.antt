@@ -11,6 +11,7 @@ use Rattle.profile_laws.specs.Tally.{kept, profile_of}
 abbrev pub TallyIsProfile : Type 0
 TallyIsProfile = (prints : ℕ → Bool) (start : State) (n : ℕ) → IsProfileOf prints start n (profile_of prints start n)
 
+-- of n steps of a run there is one profile
 abbrev pub ProfileIsOne : Type 0
 ProfileIsOne = (prints : ℕ → Bool) (start : State) (n : ℕ) (p q : Profiled) → IsProfileOf prints start n p → IsProfileOf prints start n q → p ≡ q
 

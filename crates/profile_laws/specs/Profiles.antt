@@ -6,10 +6,10 @@ use Rattle.rv_word.specs.declared.inst.Inst.TheVariants.{Branch}
 use Rattle.cells.specs.declared.Cell.TheVariants.{Byte}
 use Rattle.cells.specs.Cells.{Arch, value}
 use Rattle.cells.specs.Run.{State, is_over}
-use Rattle.rv_run.specs.Values.{register_value}
-use Rattle.rv_run.specs.Effect.{holds, is_store}
-use Rattle.rv_run.specs.Prints.{is_task_call}
-use Rattle.rv_run.specs.Machine.{machine, machine_in, word_at}
+use Rattle.rv_semantics.specs.Values.{register_value}
+use Rattle.rv_semantics.specs.Effect.{holds, is_store}
+use Rattle.rv_semantics.specs.Prints.{is_task_call}
+use Rattle.rv_semantics.specs.Machine.{machine, machine_in, word_at}
 use Rattle.profile_data.specs.Profile.{Tally, Profiled, pc_of, target_count}
 use Rattle.fitting.specs.Claims.{among}
 use Rattle.fitting.specs.Fails.{IsRegisterJump, program, state_at, arch_at, pc_at, fetched_at, IsLatestWriter}

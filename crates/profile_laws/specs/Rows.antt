@@ -1,12 +1,13 @@
 -- Worked rows: the profiles of small programs.
 use Rattle.std.specs.Prelude.{◌≡◌, ℕ, true, false, [], ◌∷◌}
-use Rattle.rv_run.specs.Programs.{frame}
-use Rattle.rv_run.specs.Start.{start}
+use Rattle.rv_semantics.specs.Programs.{frame}
+use Rattle.rv_semantics.specs.Start.{start}
 use Rattle.profile_data.specs.Profile.{Tally}
 use Rattle.fitting.specs.Rows.{never_true, rewriting, store_for_write}
 use Rattle.profile_laws.specs.Profiles.{with_mark}
 use Rattle.profile_laws.specs.Tally.{profile_of}
 
+-- a row without targets
 abbrev pub row : ℕ → ℕ → ℕ → Tally
 row pc executed taken = record { pc = pc; executed = executed; taken = taken; read = false; changed = false; targets = [] }
 

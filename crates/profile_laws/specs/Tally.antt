@@ -6,10 +6,10 @@ use Rattle.rv_word.specs.Meaning.{meaning}
 use Rattle.rv_word.specs.Masks.{sources}
 use Rattle.cells.specs.Cells.{Arch, value}
 use Rattle.cells.specs.Run.{State, is_over}
-use Rattle.rv_run.specs.Effect.{first, load_count, load_from, store_size, sum32, is_store}
-use Rattle.rv_run.specs.Prints.{is_task_call}
-use Rattle.rv_run.specs.Machine.{machine, word_at}
-use Rattle.rv_run.specs.Calls.{read_count}
+use Rattle.rv_semantics.specs.Effect.{first, load_count, load_from, store_size, sum32, is_store}
+use Rattle.rv_semantics.specs.Prints.{is_task_call}
+use Rattle.rv_semantics.specs.Machine.{machine, word_at}
+use Rattle.rv_semantics.specs.Calls.{read_count}
 use Rattle.profile_data.specs.Profile.{Tally, Profiled, row_at}
 use Rattle.fitting.specs.Claims.{among}
 use Rattle.fitting.specs.Fails.{program, state_at, pc_at}
@@ -27,12 +27,15 @@ pub record Span : Type 0 where
   pub count : ℕ
   pub from : ℕ
 
+-- so many bytes from an address on
 abbrev pub span : ℕ → ℕ → Span
 span count from = record { count = count; from = from }
 
+-- no bytes
 abbrev pub no_bytes : Span
 no_bytes = span 0 0
 
+-- the addresses of a span
 abbrev pub bytes_in : Span → List ℕ
 bytes_in s = places s.count s.from
 
@@ -51,6 +54,7 @@ stored (Store kind rs1 rs2 off) s = span (store_size kind) (sum32 (first (source
 stored Ecall s = taken_in s
 stored _ s = no_bytes
 
+-- whether an instruction is a jump by a register
 abbrev pub is_register_jump : Inst → Bool
 is_register_jump (Jalr rd rs1 off) = true
 is_register_jump _ = false
@@ -86,6 +90,7 @@ abbrev pub updated : ℕ → (Tally → Tally) → List Tally → List Tally
 updated pc f [] = []
 updated pc f (t ∷ ts) = if t.pc == pc then f t ∷ ts else t ∷ updated pc f ts
 
+-- the row of a pc that was not executed yet
 abbrev pub fresh : ℕ → Tally
 fresh pc = record { pc = pc; executed = 0; taken = 0; read = false; changed = false; targets = [] }
 
@@ -94,6 +99,7 @@ abbrev pub placed : ℕ → List ℕ → List ℕ
 placed n [] = n ∷ []
 placed n (m ∷ ms) = if nat_lt m n then m ∷ placed n ms else if m == n then m ∷ ms else n ∷ m ∷ ms
 
+-- the targets with one more, where there is one
 abbrev pub with_target : Option ℕ → List ℕ → List ℕ
 with_target None ns = ns
 with_target (Some n) ns = placed n ns
@@ -109,9 +115,11 @@ counted v t = record {
   targets = with_target v.target t.targets;
 }
 
+-- the rows after a step: that of its pc counts it
 abbrev pub visited : Visit → List Tally → List Tally
 visited v rows = if is_some (row_at rows v.pc) then updated v.pc (counted v) rows else rows ++ counted v (fresh v.pc) ∷ []
 
+-- a row whose bytes were read
 abbrev pub as_read : Tally → Tally
 as_read t = record { pc = t.pc; executed = t.executed; taken = t.taken; read = true; changed = t.changed; targets = t.targets }
 
@@ -132,6 +140,7 @@ pub record Kept : Type 0 where
   pub rows : List Tally
   pub writers : ℕ → ℕ
 
+-- nothing was executed yet
 abbrev pub nothing_kept : Kept
 nothing_kept = record { rows = []; writers = λ _. 0 }
 
@@ -139,9 +148,11 @@ nothing_kept = record { rows = []; writers = λ _. 0 }
 abbrev pub rows_after : Visit → Kept → List Tally
 rows_after v k = visited v (read_back k.writers (bytes_in v.loads) (read_back k.writers (places 4 v.pc) k.rows))
 
+-- whose store put the byte at an address, after a step
 abbrev pub writers_after : Visit → (ℕ → ℕ) → ℕ → ℕ
 writers_after v writers a = if among (bytes_in v.puts) a then v.claim else writers a
 
+-- what is kept after a step
 abbrev pub after_visit : Visit → Kept → Kept
 after_visit v k = record { rows = rows_after v k; writers = writers_after v k.writers }
 

@@ -1,17 +1,16 @@
 -- From one position of a run to the next.
 use Rattle.std.proofs.Common.{◌≡◌, ℕ, suc, ◌+◌, ◌-◌, ◌<◌, ◌≤◌, ◌^◌, Bool, true, false, All, not, ◌⊎◌, ⊎_elim, sym, ap, ◌∙◌, subst, arith}
-use Rattle.cells.specs.Cells.{IsPc}
 use Rattle.std.proofs.lemmas.Bool.{cases_eq}
+use Rattle.cells.specs.Cells.{IsPc}
 use Rattle.cells.specs.Bytes.{number}
 use Rattle.cells.specs.Run.{State, is_over}
-use Rattle.rv_run.specs.Calls.{step}
+use Rattle.rv_semantics.specs.Calls.{step}
 use Rattle.memory.specs.declared.Memory.{Ghosts}
-use Rattle.indexmap.specs.IndexMap.{values}
 use Rattle.seq_machine.specs.declared.machine.Machine.{Machine}
 use Rattle.seq_machine.specs.States.{state_of}
 use Rattle.fitting.specs.Fails.{state_at, pc_at, fetched_at, arch_at}
 use Rattle.profile_laws.specs.Profiles.{steps, pcs, is_at, is_counted, IsWide}
-use Rattle.profile_laws.specs.Tally.{Kept, visit, kept, nothing_kept, after_visit, rows_after}
+use Rattle.profile_laws.specs.Tally.{Kept, visit, kept, nothing_kept, after_visit}
 use Rattle.profile_laws.proofs.Kept.{row, rows_map}
 use Rattle.profile_laws.proofs.Found.{count_at_most}
 use Rattle.profile_laws.proofs.Fields.{executed_is, taken_is, targets_rise}
@@ -35,7 +34,7 @@ has_room prints start k small = subst (All HasRoom) (sym (rows_map prints start 
         record { executed = omega arith; taken = omega arith; targets_rise = targets_rise prints start p k }
 
 module _ {M : Type 0} {d : Ghosts M} (at : M → ℕ → ℕ) (prints : ℕ → Bool) (start : State) where
-  pub counted_at_start : (m : Machine M d) (t : CodeTally M) → state_of at m ≡ start → m.position ≡ 0 → kept_of at t ≡ nothing_kept → IsTally t → IsPc m.arch.pc → IsCounted at prints start 0 m t
+  pub counted_at_start : (m : Machine M d) (t : CodeTally M) → state_of at m ≡ start → m.position ≡ 0 → kept_of at t ≡ nothing_kept → IsTally at t → IsPc m.arch.pc → IsCounted at prints start 0 m t
   unfolding kept
   counted_at_start m t is begins none tallied pc = record {
     position = begins;
@@ -47,14 +46,14 @@ module _ {M : Type 0} {d : Ghosts M} (at : M → ℕ → ℕ) (prints : ℕ → 
   }
 
   module _ (k : ℕ) (m : Machine M d) (t : CodeTally M) (counted : IsCounted at prints start k m t) (program : ℕ → ℕ) (words : program ≡ start.arch.mem) where
-    pub room : k < 2 ^ 64 - 1 → All HasRoom (values t.table.rows)
+    pub room : k < 2 ^ 64 - 1 → All HasRoom (kept_of at t).rows
     room small = subst (All HasRoom) (sym (ap (λ (x : Kept). x.rows) counted.rows)) (has_room prints start k small)
 
     -- what is kept after the step
-    abbrev next_kept : State → Kept → Kept
+    abbrev pub next_kept : State → Kept → Kept
     next_kept s x = after_visit (visit prints (number 4 s.arch.pc program) s (step s).arch.pc) x
 
-    kept_next : next_kept (state_of at m) (kept_of at t) ≡ kept prints start (suc k)
+    pub kept_next : next_kept (state_of at m) (kept_of at t) ≡ kept prints start (suc k)
     unfolding kept
     kept_next =
         ap (λ s. next_kept s (kept_of at t)) counted.state
@@ -71,7 +70,7 @@ module _ {M : Type 0} {d : Ghosts M} (at : M → ℕ → ℕ) (prints : ℕ → 
         (cases_eq i k)
 
     pub counted_next : (n : Machine M d) (u : CodeTally M) → is_over (state_of at m) ≡ false → state_of at n ≡ step (state_of at m) → n.position ≡ m.position + 1
-        → kept_of at u ≡ next_kept (state_of at m) (kept_of at t) → IsTally u → IsPc n.arch.pc → IsCounted at prints start n.position n u
+        → kept_of at u ≡ next_kept (state_of at m) (kept_of at t) → IsTally at u → IsPc n.arch.pc → IsCounted at prints start n.position n u
     counted_next n u going is position rows tallied pc =
         let was = counted.position in
         let next : suc k ≡ n.position = omega arith in
@@ -89,11 +88,24 @@ module _ {M : Type 0} {d : Ghosts M} (at : M → ℕ → ℕ) (prints : ℕ → 
               (cases_eq i (suc k));
         })
 
+    -- nothing has changed
+    pub counted_stays : (n : Machine M d) (u : CodeTally M) → state_of at n ≡ state_of at m → n.position ≡ m.position → kept_of at u ≡ kept_of at t → IsTally at u → IsCounted at prints start n.position n u
+    counted_stays n u is position rows tallied =
+        let same : k ≡ n.position = sym (position ∙ counted.position) in
+        subst (λ j. IsCounted at prints start j n u) same (record {
+          position = sym same;
+          state = is ∙ counted.state;
+          rows = rows ∙ counted.rows;
+          tallied = tallied;
+          going = counted.going;
+          pcs = counted.pcs;
+        })
+
     -- too wide after the step, so too wide at the end
     pub wide_at_end : (budget : ℕ) → k < budget → is_over (state_of at m) ≡ false
-        → IsWide (rows_after (visit prints (number 4 m.arch.pc program) (state_of at m) (step (state_of at m)).arch.pc) (kept_of at t)) → IsWide (kept prints start (steps start budget)).rows
+        → IsWide (kept prints start (k + 1)).rows → IsWide (kept prints start (steps start budget)).rows
     wide_at_end budget lt going wide =
-        wide_stays prints start (suc k) (steps start budget) (at_least start budget (suc k) (omega arith) (going_on going)) (subst (λ (x : Kept). IsWide x.rows) kept_next wide)
+        wide_stays prints start (suc k) (steps start budget) (at_least start budget (suc k) (omega arith) (going_on going)) (subst (λ j. IsWide (kept prints start j).rows) (let e : k + 1 ≡ suc k = omega arith in e) wide)
 
     -- the run stops here
     pub counted_all : (budget : ℕ) → k ≤ budget → ((budget ≤ k) ⊎ (is_over (state_of at m) ≡ true)) → IsCounted at prints start (steps start budget) m t

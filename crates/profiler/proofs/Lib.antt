@@ -1,7 +1,11 @@
 pub mod Entries
 pub mod Results
 pub mod ReadBack
+pub mod Jumps
+pub mod Fits
+pub mod Owing
 pub mod Counting
+pub mod Begun
 pub mod Made
 pub mod SetPlaced
 pub mod Copied

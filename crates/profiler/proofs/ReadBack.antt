@@ -8,7 +8,7 @@ use Rattle.profile_data.specs.Profile.{Tally, target_count}
 use Rattle.fitting.specs.Claims.{among}
 use Rattle.profile_laws.specs.Profiles.{IsWide}
 use Rattle.profile_laws.specs.Tally.{places, read_back, marked, updated, as_read, Kept}
-use Rattle.memory_access.proofs.Places.{places_modulo}
+use Rattle.access_trace.proofs.Places.{places_modulo}
 use Rattle.profiler.specs.Rows.{HasRoom}
 use Rattle.profiler.specs.Noted.{AreNoted}
 
@@ -42,7 +42,7 @@ no_places (suc n) from a e = absurd (omega arith)
 -- ---- what stays when a row is read back
 
 module _ (pc : ℕ) where
-  same_targets : (ts : List Tally) → target_count (updated pc as_read ts) ≡ target_count ts
+  pub same_targets : (ts : List Tally) → target_count (updated pc as_read ts) ≡ target_count ts
   same_targets [] = refl
   same_targets (t ∷ ts) = go (t.pc == pc) (same_targets ts)
     where
@@ -56,7 +56,7 @@ module _ (pc : ℕ) where
           let b = sum_by-cons (λ (x : Tally). length x.targets) t ts in
           omega arith
 
-  same_length : (ts : List Tally) → length (updated pc as_read ts) ≡ length ts
+  pub same_length : (ts : List Tally) → length (updated pc as_read ts) ≡ length ts
   same_length [] = refl
   same_length (t ∷ ts) = go (t.pc == pc) (same_length ts)
     where
@@ -205,3 +205,27 @@ all_alike w mark (suc n) a ts some alike =
     others zero a alike us noted = refl
     others (suc n) a alike us noted =
         ap (read_back w (places n (a + 1))) (ap (λ m. marked m us) (first n a alike) ∙ noted) ∙ others n (a + 1) (rest n a alike) us noted
+
+-- ---- bytes that are read in another order, and once more
+
+module _ (w : ℕ → ℕ) where
+  through : (ms : List ℕ) (a : ℕ) (ts : List Tally) → read_back w ms (marked a ts) ≡ marked a (read_back w ms ts)
+  through [] a ts = refl
+  through (m ∷ ms) a ts = ap (read_back w ms) (marked_swapped (w m) a ts) ∙ through ms a (marked (w m) ts)
+
+  lists_swap : (ms ns : List ℕ) (ts : List Tally) → read_back w ms (read_back w ns ts) ≡ read_back w ns (read_back w ms ts)
+  lists_swap [] ns ts = refl
+  lists_swap (m ∷ ms) ns ts = ap (read_back w ms) (sym (through ns (w m) ts)) ∙ lists_swap ms ns (marked (w m) ts)
+
+  read_again : (ms : List ℕ) (ts : List Tally) → read_back w ms (read_back w ms ts) ≡ read_back w ms ts
+  read_again [] ts = refl
+  read_again (m ∷ ms) ts =
+      ap (read_back w ms) (sym (through ms (w m) (marked (w m) ts)) ∙ ap (read_back w ms) (marked_again (w m) ts))
+      ∙ read_again ms (marked (w m) ts)
+
+  -- what a position reads, noted twice
+  pub noted_again : (ms ns : List ℕ) (ts : List Tally) → read_back w ns (read_back w ms (read_back w ns (read_back w ms ts))) ≡ read_back w ns (read_back w ms ts)
+  noted_again ms ns ts =
+      ap (read_back w ns) (lists_swap ms ns (read_back w ms ts))
+      ∙ read_again ns (read_back w ms (read_back w ms ts))
+      ∙ ap (read_back w ns) (read_again ms ts)

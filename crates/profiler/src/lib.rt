@@ -6,8 +6,12 @@
 #![tactic(auto)]
 
 mod error;
+mod owed;
 mod profiling;
+mod programs;
 mod reading;
+mod recorder;
+mod recording;
 mod rows;
 mod table;
 mod tally;
@@ -15,3 +19,4 @@ mod visit;
 
 pub use error::ProfilingErr;
 pub use profiling::profile;
+pub use recorder::Recorder;

@@ -1,88 +1,39 @@
 //! Runs a program and counts what it does.
 
-ghost use Rattle.std.specs.Prelude.{◌≡◌, ℕ, ◌+◌, ◌-◌, ◌<◌, ◌≤◌, ◌^◌, OnOk, IfOk, IfErr, IsNone};
-ghost use Rattle.cells.specs.Cells.{IsPc};
-ghost use Rattle.cells.specs.Bytes.{word_of};
-ghost use Rattle.rv_run.specs.Calls.{step as next_state};
-ghost use Rattle.indexmap.specs.IndexMap.{values};
+ghost use Rattle.std.specs.Prelude.{◌≡◌, ◌≤◌, ◌^◌, OnOk, IfOk, IfErr};
 ghost use Rattle.elf_reader.specs.Executable.{IsProgram};
-ghost use Rattle.seq_machine.specs.States.{state_of};
 ghost use Rattle.seq_machine.specs.Parts.{start_of};
 ghost use Rattle.profile_data.specs.Profile.{Profiled};
 ghost use Rattle.profile_laws.specs.Profiles.{steps, with_mark, IsProfileOf, IsWide};
-ghost use Rattle.profile_laws.specs.Tally.{visit, kept, nothing_kept, after_visit, rows_after};
+ghost use Rattle.profile_laws.specs.Tally.{kept};
 ghost use Rattle.profiler.specs.declared.error.ProfilingErr.TheVariants.{Wide};
-ghost use Rattle.profiler.specs.Visits.{target_after};
-ghost use Rattle.profiler.specs.Rows.{EachHasRoom};
-ghost use Rattle.profiler.specs.Tally.{kept_of, IsTally};
-ghost use Rattle.profiler.specs.Counted.{IsCounted};
+ghost use Rattle.profiler.specs.Counted.{began, IsRecorded};
 
 use crate::error::ProfilingErr;
-use crate::rows::close;
-use crate::tally::Tally;
-use crate::visit::look;
+use crate::recording::Recording;
 use elf_reader::Program;
 use memory::PlainMemory;
 use profile_data::Profile;
 use rv_step::Memory;
-use seq_machine::{Machine, load};
 use std::alloc::Global;
-
-/// Where a jump by a register goes.
-fn target_after(jumps: bool, next: u32) -> Option<u32>
-    ensures { result ≡ target_after jumps next }
-{
-    if jumps { Some(next) } else { None }
-}
-
-/// Takes a step, and keeps what it does.
-fn step<M: Memory>(
-    alloc: Global,
-    machine: &mut Machine<M>,
-    program: &mut M,
-    tally: &mut Tally<M>,
-    calls: bool,
-) -> Result<(), ProfilingErr>
-    requires running { IsNone machine.old.end }
-    requires position { machine.old.position < 2 ^ 64 - 1 }
-    requires tally { IsTally tally.old }
-    requires room { EachHasRoom (values tally.old.table.rows) }
-    ensures program { M.at program.new ≡ M.at program.old }
-    ensures state { OnOk result (state_of M.at machine.new ≡ next_state (state_of M.at machine.old)) }
-    ensures position { OnOk result (machine.new.position ≡ machine.old.position + 1) }
-    ensures pc { OnOk result (IsPc machine.new.arch.pc) }
-    ensures tally { OnOk result (IsTally tally.new) }
-    ensures kept { OnOk result (kept_of M.at tally.new
-        ≡ after_visit (visit (with_mark calls) (word_of (M.at program.old) machine.old.arch.pc) (state_of M.at machine.old) (next_state (state_of M.at machine.old)).arch.pc) (kept_of M.at tally.old)) }
-    ensures wide { IfErr result (λ e. e ≡ Wide → IsWide
-        (rows_after (visit (with_mark calls) (word_of (M.at program.old) machine.old.arch.pc) (state_of M.at machine.old) (next_state (state_of M.at machine.old)).arch.pc) (kept_of M.at tally.old))) }
-{
-    let visit = look(machine, program, calls);
-    machine.one(alloc)?;
-    let target = target_after(visit.jumps, machine.arch.pc);
-    tally.add(alloc, &visit, target)
-}
 
 /// Takes the steps of the budget, or those to the end of the run.
 fn count_all<M: Memory>(
     alloc: Global,
-    machine: &mut Machine<M>,
-    program: &mut M,
-    tally: &mut Tally<M>,
+    recording: &mut Recording<M>,
     budget: u64,
-    calls: bool,
 ) -> Result<(), ProfilingErr>
-    requires position { machine.old.position ≡ 0 }
-    requires kept { kept_of M.at tally.old ≡ nothing_kept }
-    requires tally { IsTally tally.old }
-    requires program { M.at program.old ≡ M.at machine.old.arch.mem }
+    requires position { recording.old.machine.position ≡ 0 }
+    requires record { IsRecorded M.at recording.old }
     requires budget { budget ≤ 10 ^ 12 }
-    ensures counted { OnOk result (IsCounted M.at (with_mark calls) (state_of M.at machine.old) (steps (state_of M.at machine.old) budget) machine.new tally.new) }
-    ensures wide { IfErr result (λ e. e ≡ Wide → IsWide (kept (with_mark calls) (state_of M.at machine.old) (steps (state_of M.at machine.old) budget)).rows) }
+    ensures record { IsRecorded M.at recording.new }
+    ensures start { began M.at recording.new ≡ began M.at recording.old }
+    ensures calls { recording.new.calls ≡ recording.old.calls }
+    ensures steps { OnOk result (recording.new.machine.position ≡ steps (began M.at recording.old) budget) }
+    ensures wide { IfErr result (λ e. e ≡ Wide → IsWide (kept (with_mark recording.old.calls) (began M.at recording.old) (steps (began M.at recording.old) budget)).rows) }
 {
-    prove!(machine.arch.pc % 4 == 0);
-    while machine.position < budget && machine.end.is_none() {
-        step(alloc, machine, program, tally, calls)?;
+    while recording.machine.position < budget && recording.machine.end.is_none() {
+        recording.one(alloc)?;
     }
     Ok(())
 }
@@ -102,12 +53,9 @@ fn profile_on<M: Memory>(
     ensures wide { IfErr result (λ e. e ≡ Wide →
         (f : Profiled) → IsProfileOf (with_mark calls) (start_of p.now input.items) (steps (start_of p.now input.items) budget) f → IsWide f.rows) }
 {
-    let mut machine: Machine<M> = load(alloc, p, input)?;
-    let mut program = machine.arch.mem.snapshot(alloc)?;
-    let mut tally = Tally::new(alloc)?;
-    count_all(alloc, &mut machine, &mut program, &mut tally, budget, calls)?;
-    let rows = close(alloc, &tally.table.rows)?;
-    Ok(Profile::new(machine.position, machine.end.is_some(), rows))
+    let mut recording: Recording<M> = Recording::new(alloc, p, input, calls)?;
+    count_all(alloc, &mut recording, budget)?;
+    Ok(recording.profile(alloc)?)
 }
 
 /// The profile of a program's run with an input, over as many steps as the budget has, at most

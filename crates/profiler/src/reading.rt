@@ -4,13 +4,14 @@ ghost use Rattle.std.specs.Prelude.{◌≡◌, ℕ, ◌+◌, ◌%◌, ◌<◌, �
 ghost use Rattle.indexmap.specs.IndexMap.{values};
 ghost use Rattle.profile_data.specs.Keyed.{IsKeyed};
 ghost use Rattle.fitting.specs.Claims.{among};
-ghost use Rattle.profile_laws.specs.Tally.{bytes_in, read_back, marked};
-ghost use Rattle.memory_access.specs.Spans.{span_of};
-ghost use Rattle.memory_access.specs.Shadows.{own_at, mark_at};
+ghost use Rattle.profile_laws.specs.Tally.{places, bytes_in, read_back, marked};
+ghost use Rattle.access_trace.specs.Spans.{span_of};
+ghost use Rattle.access_trace.specs.Shadows.{own_at, mark_at};
 ghost use Rattle.profiler.specs.Noted.{AreNoted};
 
 use crate::table::Table;
-use memory_access::{Shadow, Span};
+use crate::visit::Visit;
+use access_trace::{ByteRange, Shadow};
 use rv_step::Memory;
 
 /// How many marks that were noted are remembered.
@@ -38,7 +39,7 @@ fn note(table: &mut Table, noted: &mut Noted, mark: u32)
 
 // Notes each store whose bytes are in a span, where each byte has a mark of its own.
 #[inline(always)]
-fn read_own<M: Memory>(table: &mut Table, writers: &Shadow<M>, noted: &mut Noted, span: Span)
+fn read_own<M: Memory>(table: &mut Table, writers: &Shadow<M>, noted: &mut Noted, span: ByteRange)
     requires keyed { IsKeyed table.old.rows }
     requires noted { AreNoted noted.old (values table.old.rows) }
     requires own { (a : ℕ) → among (bytes_in (span_of span)) a ≡ true → mark_at M.at writers.now a ≡ own_at M.at writers.now a }
@@ -54,7 +55,7 @@ fn read_own<M: Memory>(table: &mut Table, writers: &Shadow<M>, noted: &mut Noted
 
 // Notes each store whose bytes are in a span within one word.
 #[inline(always)]
-fn read_word<M: Memory>(table: &mut Table, writers: &Shadow<M>, noted: &mut Noted, span: Span)
+fn read_word<M: Memory>(table: &mut Table, writers: &Shadow<M>, noted: &mut Noted, span: ByteRange)
     requires some { 0 < span.count }
     requires within { span.from % 4 + span.count ≤ 4 }
     requires keyed { IsKeyed table.old.rows }
@@ -71,7 +72,7 @@ fn read_word<M: Memory>(table: &mut Table, writers: &Shadow<M>, noted: &mut Note
 
 // Notes each store whose bytes are in a span, word by word.
 #[inline(never)]
-fn read_words<M: Memory>(table: &mut Table, writers: &Shadow<M>, span: Span)
+fn read_words<M: Memory>(table: &mut Table, writers: &Shadow<M>, span: ByteRange)
     requires { IsKeyed table.old.rows }
     ensures rows { values table.new.rows ≡ read_back (mark_at M.at writers.now) (bytes_in (span_of span)) (values table.old.rows) }
     ensures keyed { IsKeyed table.new.rows }
@@ -79,10 +80,10 @@ fn read_words<M: Memory>(table: &mut Table, writers: &Shadow<M>, span: Span)
     let mut noted = [0; PLACES];
     let mut left = span;
     while left.count > 0 {
-        let Span { count, from } = left;
+        let ByteRange { count, from } = left;
         let here = count.min(4 - from % 4);
-        read_word(table, writers, &mut noted, Span { count: here, from });
-        left = Span {
+        read_word(table, writers, &mut noted, ByteRange { count: here, from });
+        left = ByteRange {
             count: count - here,
             from: from.wrapping_add(here),
         };
@@ -92,7 +93,7 @@ fn read_words<M: Memory>(table: &mut Table, writers: &Shadow<M>, span: Span)
 /// Notes each store whose bytes are in a span. Most of them lie in one word that one store wrote, and
 /// are noted at once.
 #[inline(always)]
-pub(crate) fn read_back<M: Memory>(table: &mut Table, writers: &Shadow<M>, span: Span)
+fn read_back<M: Memory>(table: &mut Table, writers: &Shadow<M>, span: ByteRange)
     requires { IsKeyed table.old.rows }
     ensures rows { values table.new.rows ≡ read_back (mark_at M.at writers.now) (bytes_in (span_of span)) (values table.old.rows) }
     ensures keyed { IsKeyed table.new.rows }
@@ -104,4 +105,19 @@ pub(crate) fn read_back<M: Memory>(table: &mut Table, writers: &Shadow<M>, span:
         Some(mark) => table.mark(mark),
         None => read_words(table, writers, span),
     }
+}
+
+/// Notes each store whose bytes a position fetches or loads.
+#[inline(always)]
+pub(crate) fn note_reads<M: Memory>(table: &mut Table, writers: &Shadow<M>, visit: &Visit)
+    requires { IsKeyed table.old.rows }
+    ensures rows { values table.new.rows ≡ read_back (mark_at M.at writers.now) (bytes_in (span_of visit.now.loads)) (read_back (mark_at M.at writers.now) (places 4 visit.now.pc) (values table.old.rows)) }
+    ensures keyed { IsKeyed table.new.rows }
+{
+    let word = ByteRange {
+        count: 4,
+        from: visit.pc,
+    };
+    read_back(table, writers, word);
+    read_back(table, writers, visit.loads);
 }

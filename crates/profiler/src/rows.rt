@@ -1,15 +1,14 @@
 //! Single rows of a profile while it is made.
 
-ghost use Rattle.std.specs.Prelude.{◌≡◌, ℕ, ◌<◌, ◌≤◌, ◌+◌, ◌++◌, ◌∷◌, [], false, length, take, IfOk, IfErr, OnOk, is_some, slice_get};
+ghost use Rattle.std.specs.Prelude.{◌≡◌, ℕ, ◌<◌, ◌≤◌, ◌+◌, ◌++◌, ◌∷◌, [], false, length, take, IfOk, OnOk, OnErr, if◌then◌else◌, is_some, slice_get};
+ghost use Rattle.std.specs.List.Sorted.{IsStrictlyIncreasing};
 ghost use Rattle.indexmap.specs.IndexMap.{values};
 ghost use Rattle.profile_data.specs.Profile.{target_count, row_at};
 ghost use Rattle.profile_data.specs.Keyed.{IsKeyed};
 ghost use Rattle.profile_laws.specs.Tally.{updated, as_read, counted, placed, with_target, fresh};
 ghost use Rattle.profiler.specs.Visits.{visit_of};
-ghost use Rattle.profiler.specs.declared.error.ProfilingErr.TheVariants.{Memory};
 ghost use Rattle.profiler.specs.Rows.{HasRoom, EachHasRoom};
 
-use crate::error::ProfilingErr;
 use crate::visit::Visit;
 use indexmap::IndexMap;
 use profile_data::Row;
@@ -64,6 +63,7 @@ pub(crate) fn mark_row(rows: &mut IndexMap<u32, Counts>, at: usize)
 #[inline(never)]
 fn place(targets: &mut BTreeSet<u32>, to: u32) -> Result<usize, AllocError>
     ensures placed { OnOk result (targets.new.keys ≡ placed to targets.old.keys) }
+    ensures err { OnErr result (targets.new.keys ≡ targets.old.keys) }
     ensures few { IfOk result (λ n. n ≤ 1) }
     ensures added { IfOk result (λ n. length targets.new.keys ≡ length targets.old.keys + n) }
 {
@@ -71,9 +71,33 @@ fn place(targets: &mut BTreeSet<u32>, to: u32) -> Result<usize, AllocError>
     Ok(usize::from(added))
 }
 
+/// How many numbers a target is.
+pub(crate) fn first_target(target: Option<u32>) -> usize
+    ensures added { result ≡ (if is_some target then 1 else 0) }
+    ensures few { result ≤ 1 }
+{
+    match target {
+        Some(_) => 1,
+        None => 0,
+    }
+}
+
+/// How many numbers a target would add.
+pub(crate) fn new_target(row: &Counts, target: Option<u32>) -> usize
+    requires { IsStrictlyIncreasing row.now.targets }
+    ensures added { length (with_target target row.now.targets) ≡ length row.now.targets + result }
+    ensures few { result ≤ 1 }
+{
+    match target {
+        Some(to) => usize::from(!row.targets.contains(&to)),
+        None => 0,
+    }
+}
+
 #[inline(always)]
 fn place_target(targets: &mut BTreeSet<u32>, target: Option<u32>) -> Result<usize, AllocError>
     ensures placed { OnOk result (targets.new.keys ≡ with_target target targets.old.keys) }
+    ensures err { OnErr result (targets.new.keys ≡ targets.old.keys) }
     ensures few { IfOk result (λ n. n ≤ 1) }
     ensures added { IfOk result (λ n. length targets.new.keys ≡ length targets.old.keys + n) }
 {
@@ -85,13 +109,15 @@ fn place_target(targets: &mut BTreeSet<u32>, target: Option<u32>) -> Result<usiz
 
 /// Counts a position in its row, and answers how many targets that added.
 #[inline(always)]
-fn count_in(row: &mut Counts, visit: &Visit, target: Option<u32>) -> Result<usize, AllocError>
+fn count_in(row: &mut Counts, visit: &Visit) -> Result<usize, AllocError>
     requires { HasRoom row.old }
-    ensures row { OnOk result (row.new ≡ counted (visit_of visit.now target) row.old) }
+    ensures row { OnOk result (row.new ≡ counted (visit_of visit.now) row.old) }
+    ensures err { OnErr result (row.new ≡ row.old) }
+    ensures pc { row.new.pc ≡ row.old.pc }
     ensures few { IfOk result (λ n. n ≤ 1) }
     ensures added { IfOk result (λ n. length row.new.targets ≡ length row.old.targets + n) }
 {
-    let added = place_target(&mut row.targets, target)?;
+    let added = place_target(&mut row.targets, visit.target)?;
     row.executed += 1;
     row.taken += u64::from(visit.taken);
     row.changed = row.changed || visit.changed;
@@ -104,17 +130,17 @@ pub(crate) fn count_row(
     rows: &mut IndexMap<u32, Counts>,
     at: usize,
     visit: &Visit,
-    target: Option<u32>,
 ) -> Result<usize, AllocError>
     requires keyed { IsKeyed rows.old }
     requires room { EachHasRoom (values rows.old) }
-    ensures rows { OnOk result ((pc : ℕ) → slice_get (values rows.old) at ≡ row_at (values rows.old) pc → values rows.new ≡ updated pc (counted (visit_of visit.now target)) (values rows.old)) }
-    ensures keyed { OnOk result (IsKeyed rows.new) }
+    ensures rows { OnOk result ((pc : ℕ) → slice_get (values rows.old) at ≡ row_at (values rows.old) pc → values rows.new ≡ updated pc (counted (visit_of visit.now)) (values rows.old)) }
+    ensures err { OnErr result (values rows.new ≡ values rows.old) }
+    ensures keyed { IsKeyed rows.new }
     ensures few { IfOk result (λ n. n ≤ 1) }
     ensures added { IfOk result (λ n. target_count (values rows.new) ≡ target_count (values rows.old) + n) }
 {
     match rows.get_index_mut(at) {
-        Some(row) => count_in(row, visit, target),
+        Some(row) => count_in(row, visit),
         None => Ok(0),
     }
 }
@@ -207,24 +233,69 @@ pub(crate) fn close(
     Ok(rows)
 }
 
+/// A copy of a row.
+fn copy_row(row: &Counts) -> Result<Counts, AllocError>
+    ensures { IfOk result (λ r. r ≡ row.now) }
+{
+    Ok(Counts {
+        pc: row.pc,
+        executed: row.executed,
+        taken: row.taken,
+        read: row.read,
+        changed: row.changed,
+        targets: row.targets.clone()?,
+    })
+}
+
+/// Puts a copy of a row last, where there is no row of its address.
+fn copy_in(rows: &mut IndexMap<u32, Counts>, row: &Counts) -> Result<(), AllocError>
+    requires keyed { IsKeyed rows.old }
+    requires new { is_some (row_at (values rows.old) row.now.pc) ≡ false }
+    ensures rows { OnOk result (values rows.new ≡ values rows.old ++ row.now ∷ []) }
+    ensures keyed { OnOk result (IsKeyed rows.new) }
+{
+    let copy = copy_row(row)?;
+    rows.insert(row.pc, copy)?;
+    Ok(())
+}
+
+/// Puts a copy of the row at an index last, where the rows before it were copied.
+pub(crate) fn copy_at(
+    rows: &mut IndexMap<u32, Counts>,
+    from: &IndexMap<u32, Counts>,
+    i: usize,
+) -> Result<(), AllocError>
+    requires from { IsKeyed from.now }
+    requires keyed { IsKeyed rows.old }
+    requires copied { values rows.old ≡ take i (values from.now) }
+    requires within { i < length (values from.now) }
+    ensures rows { OnOk result (values rows.new ≡ take (i + 1) (values from.now)) }
+    ensures keyed { OnOk result (IsKeyed rows.new) }
+{
+    let _count = from.len();
+    match from.get_index(i) {
+        Some((_, row)) => copy_in(rows, row),
+        None => Err(AllocError),
+    }
+}
+
 /// Counts the first position of an address, and answers how many targets that added.
 #[inline(never)]
 pub(crate) fn count_new(
     alloc: Global,
     rows: &mut IndexMap<u32, Counts>,
     visit: &Visit,
-    target: Option<u32>,
-) -> Result<usize, ProfilingErr>
+) -> Result<usize, AllocError>
     requires keyed { IsKeyed rows.old }
     requires new { is_some (row_at (values rows.old) visit.now.pc) ≡ false }
-    ensures rows { OnOk result (values rows.new ≡ values rows.old ++ counted (visit_of visit.now target) (fresh visit.now.pc) ∷ []) }
-    ensures keyed { OnOk result (IsKeyed rows.new) }
+    ensures rows { OnOk result (values rows.new ≡ values rows.old ++ counted (visit_of visit.now) (fresh visit.now.pc) ∷ []) }
+    ensures err { OnErr result (values rows.new ≡ values rows.old) }
+    ensures keyed { IsKeyed rows.new }
     ensures few { IfOk result (λ n. n ≤ 1) }
     ensures added { IfOk result (λ n. target_count (values rows.new) ≡ target_count (values rows.old) + n) }
-    ensures err { IfErr result (λ e. e ≡ Memory) }
 {
     let mut row = fresh(alloc, visit.pc);
-    let added = count_in(&mut row, visit, target)?;
+    let added = count_in(&mut row, visit)?;
     rows.insert(visit.pc, row)?;
     Ok(added)
 }

@@ -1,20 +1,18 @@
 //! The rows of a profile while it is made.
 
-ghost use Rattle.std.specs.Prelude.{◌≡◌, ◌≤◌, ◌+◌, [], true, IfOk, IfErr, IfSome, OnOk, is_some, slice_get};
+ghost use Rattle.std.specs.Prelude.{◌≡◌, ◌≤◌, ◌+◌, [], true, length, IfOk, IfSome, OnOk, OnErr, if◌then◌else◌, is_some, slice_get};
 ghost use Rattle.std.specs.Bool.{OnTrue};
 ghost use Rattle.indexmap.specs.IndexMap.{values};
 ghost use Rattle.profile_data.specs.Profile.{target_count, row_at};
 ghost use Rattle.profile_data.specs.Keyed.{IsKeyed};
 ghost use Rattle.profile_laws.specs.Tally.{marked, visited};
-ghost use Rattle.profiler.specs.declared.error.ProfilingErr.TheVariants.{Memory};
 ghost use Rattle.profiler.specs.Visits.{visit_of};
 ghost use Rattle.profiler.specs.Rows.{EachHasRoom};
 
-use crate::error::ProfilingErr;
-use crate::rows::{Counts, count_new, count_row, mark_row};
+use crate::rows::{Counts, copy_at, count_new, count_row, first_target, mark_row, new_target};
 use crate::visit::Visit;
 use indexmap::IndexMap;
-use std::alloc::Global;
+use std::alloc::{AllocError, Global};
 
 /// How many places `near` has.
 const NEAR: usize = 1024;
@@ -89,23 +87,63 @@ impl Table {
 
     /// Counts a position in the row of its address, and answers how many targets that added.
     #[inline(always)]
-    pub fn count(
-        &mut self,
-        alloc: Global,
-        visit: &Visit,
-        target: Option<u32>,
-    ) -> Result<usize, ProfilingErr>
+    pub fn count(&mut self, alloc: Global, visit: &Visit) -> Result<usize, AllocError>
         requires keyed { IsKeyed self.old.rows }
         requires room { EachHasRoom (values self.old.rows) }
-        ensures rows { OnOk result (values self.new.rows ≡ visited (visit_of visit.now target) (values self.old.rows)) }
-        ensures keyed { OnOk result (IsKeyed self.new.rows) }
+        ensures rows { OnOk result (values self.new.rows ≡ visited (visit_of visit.now) (values self.old.rows)) }
+        ensures err { OnErr result (values self.new.rows ≡ values self.old.rows) }
+        ensures keyed { IsKeyed self.new.rows }
         ensures few { IfOk result (λ n. n ≤ 1) }
         ensures added { IfOk result (λ n. target_count (values self.new.rows) ≡ target_count (values self.old.rows) + n) }
-        ensures err { IfErr result (λ e. e ≡ Memory) }
     {
         match self.index(visit.pc) {
-            Some(at) => Ok(count_row(&mut self.rows, at, visit, target)?),
-            None => count_new(alloc, &mut self.rows, visit, target),
+            Some(at) => count_row(&mut self.rows, at, visit),
+            None => count_new(alloc, &mut self.rows, visit),
+        }
+    }
+
+    /// A copy of the rows.
+    pub fn copy(&self, alloc: Global) -> Result<Table, AllocError>
+        requires { IsKeyed self.now.rows }
+        ensures rows { IfOk result (λ t. values t.rows ≡ values self.now.rows) }
+        ensures keyed { IfOk result (λ t. IsKeyed t.rows) }
+    {
+        let mut table = Table::new(alloc);
+        for i in 0..self.rows.len() {
+            copy_at(&mut table.rows, &self.rows, i)?;
+        }
+        Ok(table)
+    }
+
+    /// How many rows there are.
+    #[inline(always)]
+    pub fn len(&self) -> usize
+        ensures { result ≡ length (values self.now.rows) }
+    {
+        self.rows.len()
+    }
+
+    /// How many rows a position at an address adds.
+    pub fn new_rows(&self, pc: u32) -> usize
+        requires { IsKeyed self.now.rows }
+        ensures { result ≡ (if is_some (row_at (values self.now.rows) pc) then 0 else 1) }
+    {
+        match self.rows.get(&pc) {
+            Some(_) => 0,
+            None => 1,
+        }
+    }
+
+    /// How many targets a position adds.
+    pub fn new_targets(&self, visit: &Visit) -> usize
+        requires keyed { IsKeyed self.now.rows }
+        requires room { EachHasRoom (values self.now.rows) }
+        ensures added { target_count (visited (visit_of visit.now) (values self.now.rows)) ≡ target_count (values self.now.rows) + result }
+        ensures few { result ≤ 1 }
+    {
+        match self.rows.get(&visit.pc) {
+            Some(row) => new_target(row, visit.target),
+            None => first_target(visit.target),
         }
     }
 }

@@ -1,7 +1,7 @@
 -- None of those before is Span.
 use Rattle.std.proofs.Common.{◌≡◌, drop, map}
 use Rattle.dist_image.specs.Image.{premise}
-use Rattle.assume_laws.specs.Looks.{first_from}
+use Rattle.assumption_laws.specs.Looks.{first_from}
 use Rattle.assume_list.specs.Passes.{is_span}
 use Rattle.assume_list.proofs.check.place_of_span.Given as goal
 

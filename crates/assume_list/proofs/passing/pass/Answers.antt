@@ -1,10 +1,10 @@
 -- Position after position.
 use Rattle.std.proofs.Common.{◌≡◌, ℕ, ◌∙◌, subst, refl, Option, arith}
 use Rattle.seq_machine.specs.States.{state_of}
-use Rattle.image_world.specs.World.{count_of}
+use Rattle.image_semantics.specs.World.{count_of}
 use Rattle.fitting.specs.Fits.{is_anchor_pc}
-use Rattle.assume_laws.specs.Looks.{first_failing}
-use Rattle.memory_access.specs.Shadows.{mark_at}
+use Rattle.assumption_laws.specs.Looks.{first_failing}
+use Rattle.access_trace.specs.Shadows.{mark_at}
 use Rattle.assume_list.specs.Marks.{dead_in}
 use Rattle.assume_list.specs.Shown.{shown}
 use Rattle.assume_list.specs.Passes.{HasTurned}

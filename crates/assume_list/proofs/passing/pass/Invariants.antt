@@ -1,7 +1,7 @@
 -- What is known at a position, and that no other assumption fails before it.
 use Rattle.std.proofs.Common.{◌≡◌, ◌≤◌, ◌-◌}
 use Rattle.seq_machine.specs.States.{state_of}
-use Rattle.memory_access.specs.Shadows.{mark_at}
+use Rattle.access_trace.specs.Shadows.{mark_at}
 use Rattle.assume_list.specs.Marks.{dead_in}
 use Rattle.assume_list.specs.Places.{AreKnown}
 use Rattle.assume_list.specs.Watched.{IsWatched}

@@ -1,6 +1,6 @@
 -- It stops where it is a call that no task does, or the run is over afterwards.
 use Rattle.std.proofs.Common.{ap, ◌∙◌}
-use Rattle.rv_run.specs.Calls.{step}
+use Rattle.rv_semantics.specs.Calls.{step}
 use Rattle.seq_machine.specs.States.{state_of}
 use Rattle.assume_list.proofs.Looked.{not_over, stop_seen}
 use Rattle.assume_list.proofs.passing.step_on.Goals as goal

@@ -1,7 +1,7 @@
 -- One that has waited for the whole limit began to wait so long ago.
 use Rattle.std.proofs.Common.{◌≡◌, ◌+◌, ◌-◌, ◌∙◌, sym, ap, arith}
-use Rattle.assume_laws.specs.Waits.{joined, is_overdue}
-use Rattle.image_world.specs.World.{count_of}
+use Rattle.assumption_laws.specs.Waits.{joined, is_overdue}
+use Rattle.image_semantics.specs.World.{count_of}
 use Rattle.assume_list.specs.Shown.{shown}
 use Rattle.assume_list.proofs.Turns.{overdue_near}
 use Rattle.assume_list.proofs.passing.take_turn.Goals as goal

@@ -1,7 +1,7 @@
 -- Turn after turn, up to the end of the run or past the limit.
 use Rattle.std.proofs.Common.{◌∙◌, subst, inl, inr, ⊎_elim, arith}
 use Rattle.seq_machine.specs.States.{state_of}
-use Rattle.image_world.specs.World.{count_of}
+use Rattle.image_semantics.specs.World.{count_of}
 use Rattle.fitting.specs.Fits.{is_anchor_pc}
 use Rattle.assume_list.specs.Shown.{shown}
 use Rattle.assume_list.specs.Passes.{HasTurned}

@@ -1,7 +1,7 @@
 -- Marks that are alike add one.
 use Rattle.std.proofs.Common.{◌+◌, ◌∙◌}
 use Rattle.std.proofs.lemmas.Result.{on_ok_weaker}
-use Rattle.memory_access.specs.Shadows.{mark_at}
+use Rattle.access_trace.specs.Shadows.{mark_at}
 use Rattle.assume_list.proofs.Marks.{none_adds, one_adds}
 use Rattle.assume_list.proofs.read.append.Goals as goal
 

@@ -1,7 +1,7 @@
 -- One mark more.
 use Rattle.std.proofs.Common.{ap, ◌∙◌, refl, ◌+◌, ◌++◌, ◌∷◌, []}
 use Rattle.fitting.specs.Claims.{among}
-use Rattle.memory_access.specs.Shadows.{mark_at}
+use Rattle.access_trace.specs.Shadows.{mark_at}
 use Rattle.assume_list.proofs.Marks.{one_more, none_adds}
 use Rattle.assume_list.proofs.read.append_each.Goals as goal
 

@@ -2,7 +2,7 @@
 use Rattle.std.proofs.Common.{◌≡◌, ℕ, ◌+◌, ◌++◌, map}
 use Rattle.fitting.specs.Claims.{among}
 use Rattle.profile_laws.specs.Tally.{places}
-use Rattle.memory_access.specs.Shadows.{mark_at}
+use Rattle.access_trace.specs.Shadows.{mark_at}
 use Rattle.assume_list.proofs.read.append_each.Given as goal
 
 abbrev pub invariant-loop-i : goal.invariant-loop-i

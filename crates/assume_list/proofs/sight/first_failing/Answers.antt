@@ -1,6 +1,6 @@
 -- Where none can fail, none does.
 use Rattle.std.proofs.Common.{◌∙◌, sym, length, eqb-true}
-use Rattle.assume_laws.specs.Looks.{fails_by}
+use Rattle.assumption_laws.specs.Looks.{fails_by}
 use Rattle.assume_list.specs.Sights.{seen}
 use Rattle.assume_list.proofs.Quiet.{none_first, quiet}
 use Rattle.assume_list.proofs.sight.first_failing.Goals as goal

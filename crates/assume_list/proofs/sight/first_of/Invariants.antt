@@ -1,7 +1,7 @@
 -- None of those before fails.
 use Rattle.std.proofs.Common.{◌≡◌, drop, map}
 use Rattle.dist_image.specs.Image.{premise}
-use Rattle.assume_laws.specs.Looks.{fails_by, first_from}
+use Rattle.assumption_laws.specs.Looks.{fails_by, first_from}
 use Rattle.assume_list.specs.Sights.{seen}
 use Rattle.assume_list.proofs.sight.first_of.Given as goal
 

@@ -5,7 +5,7 @@ use Rattle.std.proofs.lemmas.List.Sorted.{answers_always}
 use Rattle.dist_image.specs.declared.image.Assumption.{Assumption}
 use Rattle.dist_image.specs.declared.image.Assumption.TheVariants as assumption
 use Rattle.dist_image.specs.Image.{Distilled, premise, key_of, IsPremise}
-use Rattle.assume_laws.specs.Looks.{fails_by}
+use Rattle.assumption_laws.specs.Looks.{fails_by}
 use Rattle.assume_list.specs.Sights.{seen}
 use Rattle.assume_list.proofs.Quiet.{keys_of, found_there, not_there}
 use Rattle.assume_list.proofs.Claimed.{premise_at}

@@ -1,6 +1,6 @@
 -- None of those before is due.
 use Rattle.std.proofs.Common.{◌≡◌, drop}
-use Rattle.assume_laws.specs.Waits.{is_overdue}
+use Rattle.assumption_laws.specs.Waits.{is_overdue}
 use Rattle.assume_list.specs.Shown.{shown_in}
 use Rattle.assume_list.proofs.waits.any_due.Given as goal
 

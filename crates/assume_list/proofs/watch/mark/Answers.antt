@@ -2,7 +2,7 @@
 use Rattle.std.proofs.Common.{◌≡◌, ℕ, true, sym, ◌∙◌}
 use Rattle.fitting.specs.Claims.{among}
 use Rattle.profile_laws.specs.Tally.{places}
-use Rattle.memory_access.specs.Shadows.{mark_at}
+use Rattle.access_trace.specs.Shadows.{mark_at}
 use Rattle.assume_list.proofs.Marks.{no_byte, put_already, said_of}
 use Rattle.assume_list.proofs.watch.mark.Goals.{then-puts-eq0-via-then-puts-eq0, then-puts-eq0-via-else-puts-eq0+then-eq}
 use Rattle.assume_list.proofs.watch.mark.Goals as goal

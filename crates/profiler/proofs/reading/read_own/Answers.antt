@@ -2,8 +2,8 @@
 use Rattle.std.proofs.Common.{◌∙◌, ◌+◌, ◌%◌, ◌^◌, ap, sym}
 use Rattle.indexmap.specs.IndexMap.{values}
 use Rattle.profile_laws.specs.Tally.{marked}
-use Rattle.memory_access.specs.Shadows.{mark_at}
-use Rattle.memory_access.proofs.Places.{among_them}
+use Rattle.access_trace.specs.Shadows.{mark_at}
+use Rattle.access_trace.proofs.Places.{among_them}
 use Rattle.profiler.proofs.ReadBack.{read_more, read_all}
 use Rattle.profiler.proofs.reading.read_own.Goals as goal
 

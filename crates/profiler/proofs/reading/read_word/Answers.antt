@@ -1,7 +1,7 @@
 -- Bytes that have the mark of their word are noted as one.
 use Rattle.std.proofs.Common.{◌∙◌}
 use Rattle.indexmap.specs.IndexMap.{values}
-use Rattle.memory_access.specs.Shadows.{mark_at}
+use Rattle.access_trace.specs.Shadows.{mark_at}
 use Rattle.profiler.proofs.ReadBack.{all_alike}
 use Rattle.profiler.proofs.reading.read_word.Goals as goal
 

@@ -3,7 +3,7 @@ use Rattle.std.proofs.Common.{◌≡◌, ◌∙◌, ◌+◌, ◌%◌, ◌^◌, r
 use Rattle.std.proofs.lemmas.List.Elements.{All-replicate}
 use Rattle.indexmap.specs.IndexMap.{values}
 use Rattle.profile_laws.specs.Tally.{marked}
-use Rattle.memory_access.specs.Shadows.{mark_at}
+use Rattle.access_trace.specs.Shadows.{mark_at}
 use Rattle.profiler.proofs.ReadBack.{read_first, nothing}
 use Rattle.profiler.proofs.reading.read_words.Goals as goal
 

@@ -2,8 +2,8 @@ use Rattle.std.proofs.Common.{◌≡◌}
 use Rattle.indexmap.specs.IndexMap.{values}
 use Rattle.profile_data.specs.Keyed.{IsKeyed}
 use Rattle.profile_laws.specs.Tally.{bytes_in, read_back}
-use Rattle.memory_access.specs.Spans.{span_of}
-use Rattle.memory_access.specs.Shadows.{mark_at}
+use Rattle.access_trace.specs.Spans.{span_of}
+use Rattle.access_trace.specs.Shadows.{mark_at}
 use Rattle.profiler.specs.Noted.{AreNoted}
 use Rattle.profiler.proofs.reading.read_words.Given as goal
 

@@ -1,6 +1,6 @@
 -- At an arrival those that wait are lowered.
 use Rattle.std.proofs.Common.{false, ap, ◌∙◌, subst, sym}
-use Rattle.assume_laws.specs.Waits.{passed_on}
+use Rattle.assumption_laws.specs.Waits.{passed_on}
 use Rattle.assume_list.specs.Shown.{IsEarly, shown}
 use Rattle.assume_list.proofs.Early.{early_lower, shown_next}
 use Rattle.assume_list.proofs.waits.Waits.pass_on.Goals as goal

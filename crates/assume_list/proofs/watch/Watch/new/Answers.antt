@@ -1,7 +1,7 @@
 -- Nothing is marked yet.
 use Rattle.std.proofs.Common.{ℕ, ap, refl}
 use Rattle.seq_machine.specs.States.{state_of}
-use Rattle.memory_access.specs.Shadows.{mark_at}
+use Rattle.access_trace.specs.Shadows.{mark_at}
 use Rattle.assume_list.specs.Marks.{dead_in}
 use Rattle.assume_list.proofs.Watched.{begun}
 use Rattle.assume_list.proofs.watch.Watch.new.Goals as goal

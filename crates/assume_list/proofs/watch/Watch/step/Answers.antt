@@ -2,11 +2,11 @@
 use Rattle.std.proofs.Common.{List, ◌≡◌, ◌+◌, ℕ, refl, ap, ◌∙◌}
 use Rattle.cells.specs.Bytes.{number}
 use Rattle.cells.specs.Run.{State}
-use Rattle.rv_run.specs.Calls.{step as next_state}
+use Rattle.rv_semantics.specs.Calls.{step as next_state}
 use Rattle.fitting.specs.Claims.{among}
 use Rattle.fitting.specs.Fits.{is_analysed}
 use Rattle.seq_machine.specs.States.{state_of}
-use Rattle.memory_access.specs.Shadows.{mark_at}
+use Rattle.access_trace.specs.Shadows.{mark_at}
 use Rattle.assume_list.proofs.Looked.{not_over, stop_seen, marks_seen, looked}
 use Rattle.assume_list.proofs.watch.Watch.step.Goals as goal
 

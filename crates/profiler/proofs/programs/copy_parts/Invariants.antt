@@ -1,0 +1,6 @@
+-- Those so far.
+use Rattle.std.proofs.Common.{◌≡◌, take}
+use Rattle.profiler.proofs.programs.copy_parts.Given as goal
+
+abbrev pub invariant-loop-part : goal.invariant-loop-part
+invariant-loop-part l = l.copy.items ≡ take l.part-index l.parts
