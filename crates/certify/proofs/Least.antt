@@ -3,7 +3,7 @@ use Rattle.std.proofs.Common.{◌≡◌, ℕ, ◌<◌, ◌≤◌, ◌+◌, zero,
 use Rattle.rv_word.specs.declared.inst.Inst.{Inst}
 use Rattle.rv_word.specs.Masks.{in_mask}
 use Rattle.dist_image.specs.declared.image.Note.{Note}
-use Rattle.rv_run.specs.Prints.{task_reads, task_writes}
+use Rattle.rv_semantics.specs.Prints.{task_reads, task_writes}
 use Rattle.dist_image.specs.Image.{Distilled, prints_at}
 use Rattle.fitting.specs.Claims.{claims, leads, among}
 use Rattle.fitting.specs.Fits.{IsAimed, LiveFits, NeedFits, IsWithin, IsWithinBut, instruction, read_mask, write_mask, live_at, need_at, is_anchor_pc}

@@ -9,9 +9,11 @@ use Rattle.fitting.specs.Fits.{Fits, IsListed, IsDone, IsPlaced, MayPass, IsAime
 use Rattle.certify.specs.declared.fit.Fit.{Fit}
 use Rattle.certify.specs.declared.fit.Fit.TheVariants.{Yes, No}
 
+-- Code, Within and Span are listed
 abbrev pub AreListed : Distilled → Type 0
 AreListed image = IsListed image.assumptions Code × IsListed image.assumptions Within × IsListed image.assumptions Span
 
+-- the slot at an anchor's place is the fork of its number
 abbrev pub IsForked : Distilled → ℕ → Anchor → Type 0
 IsForked image k a = (slot_of image a.pc ≡ Some a.slot) × (slice_get image.slots a.slot ≡ Some (Fork k))
 
@@ -55,8 +57,10 @@ pub record AreRules (word : ℕ → ℕ) (image : Distilled) : Type 0 where
   pub fits : ((rule pc : ℕ) → Keeps word image rule pc) → Fits word image
   pub keeps : Fits word image → (rule pc : ℕ) → Keeps word image rule pc
 
+-- an image that keeps each rule fits its program, and one that fits keeps each
 abbrev pub RulesAreFitting : Type 0
 RulesAreFitting = (word : ℕ → ℕ) (image : Distilled) → AreRules word image
 
+-- of one program and image there is one answer
 abbrev pub AnswersAreOne : Type 0
 AnswersAreOne = (word : ℕ → ℕ) (image : Distilled) (a b : Fit) → IsAnswer word image a → IsAnswer word image b → a ≡ b

@@ -10,9 +10,11 @@ use Rattle.certify.specs.Answers.{Keeps, NoteKeeps}
 abbrev pub on_list : ℕ → Bool
 on_list rule = nat_eq rule 1
 
+-- whether a rule speaks of an anchor
 abbrev pub on_anchors : ℕ → Bool
 on_anchors rule = nat_eq rule 2
 
+-- whether a rule speaks of a note
 abbrev pub on_notes : ℕ → Bool
 on_notes rule = nat_le 3 rule
 

@@ -2,7 +2,7 @@
 
 ghost use Rattle.std.specs.Prelude.{◌≡◌, ◌≢◌, ◌%◌, ◌↔◌, IsTrue, IsSome};
 ghost use Rattle.rv_word.specs.Spelling.{IsWellFormed};
-ghost use Rattle.rv_run.specs.Effect.{after};
+ghost use Rattle.rv_semantics.specs.Effect.{after};
 ghost use Rattle.dist_image.specs.Image.{IsImage};
 ghost use Rattle.fitting.specs.Claims.{claims, goes_on_at};
 ghost use Rattle.fitting.specs.Fits.{MayPass, IsAimed};

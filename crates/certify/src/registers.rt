@@ -2,7 +2,7 @@
 
 ghost use Rattle.std.specs.Prelude.{◌≡◌, ◌↔◌, IsTrue};
 ghost use Rattle.rv_word.specs.Spelling.{IsWellFormed};
-ghost use Rattle.rv_run.specs.Prints.{asks, task_reads, task_writes};
+ghost use Rattle.rv_semantics.specs.Prints.{asks, task_reads, task_writes};
 ghost use Rattle.dist_image.specs.Image.{IsImage, prints_at};
 ghost use Rattle.fitting.specs.Fits.{IsWithin, IsWithinBut, AreApart};
 

@@ -4,7 +4,7 @@ use Rattle.std.specs.Map.{lookup}
 use Rattle.rv_word.specs.declared.inst.Inst.{Inst}
 use Rattle.rv_word.specs.declared.inst.Inst.TheVariants.{Jal, Jalr, Branch, Store, Ecall, Ebreak, Illegal}
 use Rattle.rv_word.specs.Meaning.{meaning}
-use Rattle.rv_run.specs.Prints.{task_reads, task_writes}
+use Rattle.rv_semantics.specs.Prints.{task_reads, task_writes}
 use Rattle.fitting.specs.Claims.{among}
 use Rattle.distill_rules.specs.declared.Fate.{Fate}
 use Rattle.distill_rules.specs.declared.Fate.TheVariants.{Stays, Goes, AsNeeded}
@@ -37,9 +37,11 @@ point_by prints cut dead is_set is_anchor s =
       is_anchor = is_anchor;
     }
 
+-- what the rounds see of an instruction beside these lists
 abbrev pub point : Cuts → List ℕ → Site → Point
 point c anchors s =
     point_by (among c.writes) (lookup (nat_eq s.pc) c.cut) (among c.dead s.pc) (is_some (lookup (nat_eq s.pc) c.same)) (among anchors s.pc) s
 
+-- the same of each instruction of a graph
 abbrev pub points : Cuts → List ℕ → Graph → List Point
 points c anchors g = map (point c anchors) g.spots

@@ -1,8 +1,8 @@
 -- Worked rows: what is cut, where instructions lead, and which masks come of it.
 use Rattle.std.specs.Prelude.{◌≡◌, ℕ, Bool, true, false, List, [], ◌∷◌, Some, None}
 use Rattle.rv_word.specs.Meaning.{meaning}
-use Rattle.rv_run.specs.Programs.{frame, hello}
-use Rattle.rv_run.specs.Start.{Loaded, program_word}
+use Rattle.rv_semantics.specs.Programs.{frame, hello}
+use Rattle.rv_semantics.specs.Start.{Loaded, program_word}
 use Rattle.profile_data.specs.Profile.{Tally}
 use Rattle.fitting.specs.Rows.{never_true, store_for_write, jump_ahead}
 use Rattle.distill_rules.specs.declared.Mask.{Mask}
@@ -15,12 +15,15 @@ use Rattle.distill_rules.specs.Rounds.{solved}
 abbrev pub row : ℕ → ℕ → ℕ → Bool → Tally
 row pc executed taken read = record { pc = pc; executed = executed; taken = taken; read = read; changed = false; targets = [] }
 
+-- an instruction of a graph, by pc, word and where it leads
 abbrev pub site : ℕ → ℕ → List ℕ → Site
 site pc word next = record { pc = pc; word = word; next = next }
 
+-- an entry of a table
 abbrev pub mask : ℕ → ℕ → ℕ → Bool → Mask
 mask pc live need kept = record { pc = pc; live = live; need = need; kept = kept }
 
+-- the greatest count of 64 bits
 abbrev pub greatest : ℕ
 greatest = 0xFFFF_FFFF_FFFF_FFFF
 
@@ -53,14 +56,17 @@ pub record RuleRows : Type 0 where
 
 -- ---- a loop of ten turns with a comparison in it that never holds
 
+-- a profile of the program whose branch is never taken
 abbrev pub never_rows : List Tally
 never_rows =
     row 0x00010000 1 0 false ∷ row 0x00010004 10 0 false ∷ row 0x00010008 10 0 false ∷ row 0x0001000c 10 0 false ∷ row 0x00010010 10 9 false
     ∷ row 0x00010014 1 0 false ∷ row 0x0001001c 1 0 false ∷ row 0x00010020 1 0 false ∷ row 0x00010024 1 0 false ∷ []
 
+-- what is cut of it
 abbrev pub never_cuts : Cuts
 never_cuts = record { cut = (0x00010008, true) ∷ []; dead = []; writes = []; same = [] }
 
+-- what is cut, where instructions lead, and what is live and needed there
 pub record NeverRows : Type 0 where
   pub cut : cuts (program_word never_true) never_rows 0 ≡ never_cuts
   pub leads : (graph (program_word never_true) never_rows never_cuts).spots
@@ -88,14 +94,17 @@ pub record NeverRows : Type 0 where
 
 -- ---- a store of a byte that nothing loads, and a write of it: the rows out of their order
 
+-- a profile of the program whose store a call alone reads
 abbrev pub store_rows : List Tally
 store_rows =
     row 0x00010004 1 0 false ∷ row 0x00010000 1 0 false ∷ row 0x00010008 1 0 false ∷ row 0x0001000c 1 0 false ∷ row 0x00010010 1 0 false
     ∷ row 0x00010014 1 0 false ∷ row 0x00010018 1 0 false ∷ row 0x0001001c 1 0 false ∷ row 0x00010024 1 0 false ∷ row 0x00010020 1 0 false ∷ []
 
+-- what is cut of it: a dead store
 abbrev pub store_cuts : Cuts
 store_cuts = record { cut = []; dead = 0x00010008 ∷ []; writes = []; same = [] }
 
+-- what is cut, and what is live and needed there
 pub record StoreRows : Type 0 where
   pub cut : cuts (program_word store_for_write) store_rows 10 ≡ store_cuts
   pub masks : solved (points store_cuts (0x00010000 ∷ 0x0001001c ∷ []) (graph (program_word store_for_write) store_rows store_cuts))
@@ -113,6 +122,7 @@ pub record StoreRows : Type 0 where
 
 -- ---- a jump by a register goes where the profile says, as far as that is analysed. A changed row is not
 
+-- a profile of the program that jumps by a register, with a target outside
 abbrev pub jump_rows : List Tally
 jump_rows =
     row 0x00010000 2 0 false
@@ -120,6 +130,7 @@ jump_rows =
     ∷ record { pc = 0x00010008; executed = 1; taken = 0; read = false; changed = true; targets = [] }
     ∷ []
 
+-- where a jump by a register leads: to its analysed targets
 pub record JumpRows : Type 0 where
   pub leads : (graph (program_word jump_ahead) jump_rows (record { cut = []; dead = []; writes = []; same = [] })).spots
       ≡ site 0x00010000 0x00000297 (0x00010004 ∷ []) ∷ site 0x00010004 0x008280E7 (0x00010000 ∷ []) ∷ []
@@ -129,9 +140,11 @@ pub record JumpRows : Type 0 where
 -- ---- a profile of no run: a branch to itself that never fell through, a jump aside, and an address outside the program.
 -- Targets count at a jump by a register alone
 
+-- a branch to its own pc and a jump to no analysed one
 abbrev pub strange : Loaded
 strange = frame (0x00000063 ∷ 0x0020006F ∷ [])
 
+-- a profile of it that no run gives
 abbrev pub strange_rows : List Tally
 strange_rows =
     row 0x00020000 1 1 true
@@ -139,9 +152,11 @@ strange_rows =
     ∷ row 0x00010000 greatest greatest false
     ∷ []
 
+-- what is cut of it
 abbrev pub strange_cuts : Cuts
 strange_cuts = record { cut = (0x00010000, false) ∷ []; dead = []; writes = []; same = [] }
 
+-- where it leads, cut and uncut
 pub record StrangeRows : Type 0 where
   pub cut : cuts (program_word strange) strange_rows 0 ≡ strange_cuts
   pub uncut_leads : (graph (program_word strange) strange_rows (record { cut = []; dead = []; writes = []; same = [] })).spots
@@ -153,14 +168,17 @@ pub record StrangeRows : Type 0 where
 
 -- ---- a program that prints, where each execution of its call was a short write
 
+-- a profile of the program that greets, with its call counted
 abbrev pub hello_rows : List Tally
 hello_rows =
     row 0x00010000 1 0 false ∷ row 0x00010004 1 0 false ∷ row 0x00010008 1 0 false ∷ row 0x0001000c 1 0 false ∷ row 0x00010010 1 0 false
     ∷ row 0x00010014 1 1 false ∷ row 0x00010018 1 0 false ∷ row 0x0001001c 1 0 false ∷ row 0x00010020 1 0 false ∷ []
 
+-- what is cut of it: the write is a task's
 abbrev pub hello_cuts : Cuts
 hello_cuts = record { cut = []; dead = []; writes = 0x00010014 ∷ []; same = [] }
 
+-- what is cut, and what is live and needed around a call that a task does
 pub record HelloRows : Type 0 where
   pub cut : cuts (program_word hello) hello_rows 10 ≡ hello_cuts
   pub masks : solved (points hello_cuts (0x00010000 ∷ 0x00010018 ∷ []) (graph (program_word hello) hello_rows hello_cuts))
@@ -177,9 +195,11 @@ pub record HelloRows : Type 0 where
 
 -- ---- a FENCE does nothing, so it is not kept
 
+-- a FENCE before a call
 abbrev pub fencing : Loaded
 fencing = frame (0x0FF0000F ∷ 0x00000073 ∷ [])
 
+-- a FENCE is not kept
 pub record FenceRows : Type 0 where
   pub masks : solved (points (record { cut = []; dead = []; writes = []; same = [] }) (0x00010000 ∷ [])
       (graph (program_word fencing) (row 0x00010000 1 0 false ∷ row 0x00010004 1 0 false ∷ []) (record { cut = []; dead = []; writes = []; same = [] })))

@@ -18,7 +18,7 @@ use Rattle.profile_data.specs.Profile.{Tally}
 use Rattle.fitting.specs.Claims.{among}
 use Rattle.fitting.specs.Fits.{set_word}
 use Rattle.distill_rules.specs.Analysed.{analysed}
-use Rattle.distill_laws.specs.Laws.{IsLoadOf}
+use Rattle.distill_fits.specs.Laws.{IsLoadOf}
 use Rattle.cuts.specs.Listed.{place_of}
 use Rattle.distiller.specs.Given.{sets_register, counts, loads, IsSetting}
 

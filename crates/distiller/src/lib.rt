@@ -11,7 +11,7 @@ ghost use Rattle.seq_machine.specs.Parts.{start_of};
 ghost use Rattle.fitting.specs.Fits.{Fits};
 ghost use Rattle.profile_laws.specs.Profiles.{with_mark, IsProfileOf};
 ghost use Rattle.layout_rules.specs.Images.{distilled};
-ghost use Rattle.exact_images.specs.Laws.{IsLoaded, ListHolds};
+ghost use Rattle.distill_exact.specs.Images.{IsLoaded, ListHolds};
 ghost use Rattle.cuts.specs.Words.{word_in};
 ghost use Rattle.distiller.specs.Asked.{IsInRange};
 ghost use Rattle.distiller.specs.Given.{loads, AreGiven};

@@ -1,8 +1,8 @@
 -- Worked rows: how many arrivals a task spans, where tasks may begin, and the images of small programs.
 use Rattle.std.specs.Prelude.{◌≡◌, ℕ, true, false, List, [], ◌∷◌, Some, None}
 use Rattle.rv_word.specs.Meaning.{meaning}
-use Rattle.rv_run.specs.Programs.{frame, hello}
-use Rattle.rv_run.specs.Start.{Loaded, program_word}
+use Rattle.rv_semantics.specs.Programs.{frame, hello}
+use Rattle.rv_semantics.specs.Start.{Loaded, program_word}
 use Rattle.dist_image.specs.declared.image.Slot.TheVariants.{Exec, Fork}
 use Rattle.dist_image.specs.Image.{Cut, Code, Within, Span, Distilled, nothing_known}
 use Rattle.profile_data.specs.Profile.{Tally, Profiled}
@@ -12,6 +12,7 @@ use Rattle.layout_rules.specs.declared.Options.{Options}
 use Rattle.layout_rules.specs.Places.{count_by, aim_by, begun}
 use Rattle.layout_rules.specs.Images.{distilled}
 
+-- counts of worked profiles
 pub record CountRows : Type 0 where
   pub worked : count_by 8 45 11 ≡ 2
   pub greatest : count_by 65_536 1 1 ≡ 64
@@ -19,6 +20,7 @@ pub record CountRows : Type 0 where
   pub one_arrival_a_step : count_by 200 10 10 ≡ 64
   pub no_arrival : count_by 200 0 0 ≡ 64
 
+-- where branches and jumps aim
 pub record AimRows : Type 0 where
   -- branches to their own pc, and ahead
   pub to_itself : aim_by None 0x00010000 (meaning 0x00000063) ≡ Some 0x00010000
@@ -39,12 +41,15 @@ pub record HotRows : Type 0 where
   pub exactly : begun (program_word never_true) never_rows never_cuts 0x00010000 10 ≡ 0x00010000 ∷ 0x00010004 ∷ []
   pub too_seldom : begun (program_word never_true) never_rows never_cuts 0x00010000 11 ≡ 0x00010000 ∷ []
 
+-- options of `distill`
 abbrev pub options : ℕ → ℕ → ℕ → ℕ → Options
 options rare hot goal limit = record { rare = rare; hot = hot; goal = goal; limit = limit }
 
+-- a profile of a run that has ended
 abbrev pub ended : ℕ → List Tally → Profiled
 ended steps rows = record { steps = steps; ended = true; rows = rows }
 
+-- the image that is distilled without given values
 abbrev pub image_of : Loaded → Profiled → Options → Distilled
 image_of p f o = distilled (program_word p) 0x00010000 f [] o
 
@@ -60,6 +65,7 @@ StoreRows =
 
 -- ---- a byte of input decides whether the loop is left early
 
+-- a program whose input decides a branch
 abbrev pub input_decides : Loaded
 input_decides = frame (
     0x00000513 ∷ 0x000205B7 ∷ 0x00100613 ∷ 0x03F00893 ∷ 0x00000073 ∷ 0x00058303 ∷ 0x00A00293 ∷ 0x00031A63 ∷ 0xFFF28293 ∷ 0xFE029CE3
@@ -72,9 +78,11 @@ input_rows =
     ∷ row 0x00010014 1 0 false ∷ row 0x00010018 1 0 false ∷ row 0x0001001c 10 0 false ∷ row 0x00010020 10 0 false ∷ row 0x00010024 10 9 false
     ∷ row 0x00010028 1 0 false ∷ row 0x0001002c 1 0 false ∷ row 0x00010034 1 0 false ∷ row 0x00010038 1 0 false ∷ []
 
+-- its image
 abbrev pub input_image : Distilled
 input_image = image_of input_decides (ended 41 input_rows) (options 0 2 6 64)
 
+-- its slots, notes and assumptions
 pub record InputRows : Type 0 where
   pub slots : input_image.slots
       ≡ Fork 0 ∷ Exec 0x00010010 0x00000073
@@ -85,6 +93,7 @@ pub record InputRows : Type 0 where
 
 -- ---- a loop whose branch never falls through is passed by a Go; and profiles in which nothing is analysed
 
+-- images of the shortest loops
 pub record BareRows : Type 0 where
   pub looped : image_of always_taken (ended 10 (row 0x00010000 5 0 false ∷ row 0x00010004 5 5 false ∷ [])) (options 0 2 2 16) ≡ taken_image
   pub no_rows : image_of always_taken (ended 0 []) (options 0 2 2 16) ≡ record nothing_known { assumptions = Code ∷ Within ∷ Span ∷ [] }
@@ -93,6 +102,7 @@ pub record BareRows : Type 0 where
 
 -- ---- programs that print, by profiles in which each execution of the call was a short write
 
+-- options whose limit is the one that is named
 abbrev pub printing : ℕ → Options
 printing limit = options 10 2 200 limit
 
@@ -102,6 +112,7 @@ shown_rows =
     row 0x00010004 1 0 false ∷ row 0x00010000 1 0 false ∷ row 0x00010008 1 0 true ∷ row 0x0001000c 1 0 false ∷ row 0x00010010 1 0 false
     ∷ row 0x00010014 1 0 false ∷ row 0x00010018 1 1 false ∷ row 0x0001001c 1 0 false ∷ row 0x00010024 1 0 false ∷ row 0x00010020 1 0 false ∷ []
 
+-- an image with a call that a task does
 abbrev pub shown_image : Distilled
 shown_image = record {
   version = 2;
@@ -126,6 +137,7 @@ shown_image = record {
   writes = 0x00010018 ∷ [];
 }
 
+-- images of programs that print
 pub record PrintRows : Type 0 where
   pub printed : image_of hello (ended 9 hello_rows) (printing 4096) ≡ hello_image
   -- the longest task of the second version
@@ -134,9 +146,11 @@ pub record PrintRows : Type 0 where
 
 -- ---- loads of one value
 
+-- the image that is distilled with given values
 abbrev pub image_with : Loaded → Profiled → List (ℕ × ℕ) → Options → Distilled
 image_with p f same o = distilled (program_word p) 0x00010000 f same o
 
+-- a profile of the program whose load gives one value
 abbrev pub value_rows : List Tally
 value_rows =
     row 0x00010000 1 0 false ∷ row 0x00010004 1 0 false ∷ row 0x00010008 10 0 false ∷ row 0x0001000c 10 0 false ∷ row 0x00010010 10 0 false
@@ -146,6 +160,7 @@ value_rows =
 abbrev pub unneeded_load : Loaded
 unneeded_load = frame (0x00002283 ∷ 0x00000073 ∷ [])
 
+-- images with a set load
 pub record ValueRows : Type 0 where
   pub set : image_with one_value (ended 45 value_rows) ((0x00010008, 0) ∷ []) (printing 4096) ≡ value_image
   -- it is passed, and its value is not listed

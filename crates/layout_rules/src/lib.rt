@@ -23,7 +23,7 @@ pub struct Options {
 
 /// An analysed instruction, with all that its place in an image rests on.
 #[derive(Clone, Copy, Debug, PartialEq, Eq)]
-pub struct Plot {
+pub struct SlotPlan {
     /// Its address.
     pub pc: u32,
     /// The word that is laid there: the program's, or one that sets the register of a load.

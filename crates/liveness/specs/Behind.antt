@@ -10,12 +10,15 @@ use Rattle.liveness.specs.Waiting.{point_at, mask_at, ArePlaces}
 abbrev pub behind_in : List Mask → Point → Behind
 behind_in t p = record { live = joined (live_at t) p.next; need = joined (need_at t) p.next }
 
+-- nothing is live or needed
 abbrev pub none_behind : Behind
 none_behind = record { live = 0; need = 0 }
 
+-- what is joined behind instruction i
 abbrev pub behind_at : List Behind → ℕ → Behind
 behind_at b i = slice_index_or b i none_behind
 
+-- the same with one more mask
 abbrev pub with_mask : Behind → Mask → Behind
 with_mask e m = record { live = bit_or e.live m.live; need = bit_or e.need m.need }
 
@@ -24,6 +27,7 @@ pub record HasAll (m n : Mask) : Type 0 where
   pub live : bit_or n.live m.live ≡ m.live
   pub need : bit_or n.need m.need ≡ m.need
 
+-- what is joined is what the table has behind each instruction
 abbrev pub Grows : List Point → List Mask → Type 0
 Grows ps t = (i : ℕ) → i < length ps → HasAll (step t (point_at ps i)) (mask_at t i)
 

@@ -3,7 +3,7 @@
 ghost use Rattle.std.specs.Prelude.{◌≡◌, IfOk, if◌then◌else◌};
 ghost use Rattle.rv_word.specs.Spelling.{IsWellFormed};
 ghost use Rattle.std.specs.List.Sorted.{IsStrictlyIncreasing};
-ghost use Rattle.rv_run.specs.Prints.{is_call, task_reads, task_writes};
+ghost use Rattle.rv_semantics.specs.Prints.{is_call, task_reads, task_writes};
 ghost use Rattle.distill_rules.specs.Points.{fate_of, point_by, points};
 ghost use Rattle.distill_rules.specs.Solution.{IsFit, AreFit};
 ghost use Rattle.cuts.specs.Listed.{IsListed};
@@ -17,7 +17,7 @@ use std::marker::Model;
 
 /// What the rounds see of an instruction.
 #[derive(Drop)]
-pub(crate) struct Part {
+pub(crate) struct FlowPoint {
     pub pc: u32,
     /// Where it leads.
     pub next: Vec<u32>,
@@ -29,7 +29,7 @@ pub(crate) struct Part {
     pub is_anchor: bool,
 }
 
-impl Model for Part {
+impl Model for FlowPoint {
     ghost use Rattle.distill_rules.specs.Rounds.{Point};
 
     ghost Value = { Point };
@@ -51,7 +51,7 @@ pub(crate) fn parts(
     g: &SpotGraph,
     c: &CutList,
     anchors: &[u32],
-) -> Result<Vec<Part>, AllocError>
+) -> Result<Vec<FlowPoint>, AllocError>
     requires listed { IsListed c.now }
     requires anchors { IsStrictlyIncreasing anchors.now }
     ensures parts { IfOk result (λ parts. parts.items ≡ points c.now anchors.now g.now) }
@@ -86,14 +86,14 @@ struct Known {
 }
 
 /// The part of a spot, by what is known of it.
-fn part_of(alloc: Global, spot: &Spot, known: Known) -> Result<Part, AllocError>
+fn part_of(alloc: Global, spot: &Spot, known: Known) -> Result<FlowPoint, AllocError>
     ensures part { IfOk result (λ part. part ≡ point_by (λ pc. known.prints) known.cut known.dead known.is_set known.is_anchor spot.now) }
     ensures fit { IfOk result IsFit }
 {
     let word = spot.word;
     let instruction = decode(word);
     let reads = task_reads(&instruction, known.prints);
-    Ok(Part {
+    Ok(FlowPoint {
         pc: spot.pc,
         next: Vec::from_slice(alloc, &spot.next)?,
         reads,

@@ -10,12 +10,12 @@ use Rattle.layout_rules.specs.Images.{laid_out, distilled, cuts_of, graph_of, pl
 use Rattle.dist_image.specs.Image.{Distilled, IsImage}
 use Rattle.seq_machine.specs.Parts.{start_of}
 use Rattle.fitting.specs.Fits.{Fits}
-use Rattle.exact_images.specs.Laws.{IsLoaded, ListHolds}
+use Rattle.distill_exact.specs.Images.{IsLoaded, ListHolds}
 use Rattle.distiller.specs.Given.{loads}
 use Rattle.distiller.proofs.Loads.{are_loads, all_loads}
-use Rattle.distill_laws.proofs.Laws.{distilled_fits}
-use Rattle.image_laws.proofs.Laws.{distilled_is_image}
-use Rattle.exact_images.proofs.Exact.{exactly}
+use Rattle.distill_fits.proofs.Laws.{distilled_fits}
+use Rattle.distill_valid.proofs.Laws.{distilled_is_image}
+use Rattle.distill_exact.proofs.Images.{exactly}
 use Rattle.distiller.proofs.Lengths.{few_spots, as_many_masks}
 use Rattle.distiller.proofs.distill_same.Goals as goal
 use Rattle.distiller.proofs.distill_same.Goals.{After-drop-c-inside-5}

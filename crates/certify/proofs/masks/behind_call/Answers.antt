@@ -1,6 +1,6 @@
 -- No task prints there.
 use Rattle.std.proofs.Common.{[], ◌∷◌, subst, sym, ◌∙◌, cond}
-use Rattle.rv_run.specs.Effect.{after}
+use Rattle.rv_semantics.specs.Effect.{after}
 use Rattle.certify.specs.Ways.{AreMasks}
 use Rattle.certify.proofs.masks.behind_call.Goals as goal
 

@@ -3,13 +3,13 @@ use Rattle.std.proofs.Common.{false, sym, ap, ◌∙◌, ◌++◌, [], ◌∷◌
 use Rattle.std.specs.Option.{option_map}
 use Rattle.std.proofs.lemmas.List.{map-append}
 use Rattle.dist_image.specs.Image.{premise}
-use Rattle.layout_rules.specs.declared.Plot.{Plot}
+use Rattle.layout_rules.specs.declared.SlotPlan.{SlotPlan}
 use Rattle.layout_rules.specs.Images.{same_premise}
 use Rattle.fork_layout.proofs.Found.{found_at}
 use Rattle.fork_layout.proofs.assuming.assume_values.Goals as goal
 use Rattle.fork_layout.proofs.assuming.assume_values.Goals.{in-Some+in_ok-push, in_default}
 
-abbrev no_plot : Plot
+abbrev no_plot : SlotPlan
 no_plot = record { pc = 0; word = 0; live = 0; need = 0; kept = false; is_anchor = false; on = 0 }
 
 pub loop-plot-preserved : goal.loop-plot-preserved

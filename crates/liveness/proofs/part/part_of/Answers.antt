@@ -1,7 +1,7 @@
 -- The masks of a word are fit.
 use Rattle.std.proofs.Common.{ℕ, Bool, sym, ap, ◌∙◌, subst, arith, cond}
 use Rattle.rv_word.specs.declared.inst.Inst.{Inst}
-use Rattle.rv_run.specs.Prints.{task_reads, task_writes}
+use Rattle.rv_semantics.specs.Prints.{task_reads, task_writes}
 use Rattle.distill_rules.specs.Flow.{Site}
 use Rattle.distill_rules.specs.Points.{fate_of}
 use Rattle.distill_rules.specs.Solution.{IsFit}
