@@ -2,7 +2,7 @@
 use Rattle.std.specs.Prelude.{ℕ, ◌%◌, List, [], ◌∷◌, ◌++◌, codes, decimal, Option, Some, unwrap_or}
 use Rattle.cells.specs.declared.End.{End}
 use Rattle.cells.specs.declared.End.TheVariants.{Exit}
-use Rattle.command_line.specs.Command.{Command, Run, Show, Replay, Profile, Distill, Check, Certify, Trial}
+use Rattle.command_line.specs.Command.{Command, Run, Show, Replay, Profile, Values, Distill, Check, Certify, Trial}
 use Rattle.dist_image.specs.declared.error.ImageErr.{ImageErr}
 use Rattle.dist_image.specs.declared.error.ImageErr.TheVariants as image
 use Rattle.dist_image.specs.declared.error.Table.{Table}
@@ -11,6 +11,8 @@ use Rattle.elf_reader.specs.declared.error.ElfErr.{ElfErr}
 use Rattle.elf_reader.specs.declared.error.ElfErr.TheVariants as elf
 use Rattle.event_list.specs.declared.error.EventErr.{EventErr}
 use Rattle.event_list.specs.declared.error.EventErr.TheVariants as events
+use Rattle.load_values.specs.declared.error.ValuesErr.{ValuesErr}
+use Rattle.load_values.specs.declared.error.ValuesErr.TheVariants as values
 use Rattle.profile_data.specs.declared.error.ProfileErr.{ProfileErr}
 use Rattle.profile_data.specs.declared.error.ProfileErr.TheVariants as profile
 use Rattle.report.specs.Text.{hex_word, line, end_words}
@@ -26,6 +28,7 @@ abbrev pub end_status : End → ℕ
 end_status (Exit code) = code % 256
 end_status _ = 121
 
+-- the status of a refused file
 abbrev pub refusal_status : Refusal → ℕ
 refusal_status (refusal.Program e) = 116
 refusal_status (refusal.Image e) = 117
@@ -33,7 +36,10 @@ refusal_status (refusal.Events e) = 119
 refusal_status (refusal.Profile e) = 118
 refusal_status refusal.Wide = 118
 refusal_status refusal.Empty = 118
+refusal_status (refusal.Values e) = 123
+refusal_status refusal.WideLoads = 123
 
+-- the status of an answer
 abbrev pub status_of : Answer → ℕ
 status_of Usage = 110
 status_of (Absent s) = 111
@@ -61,8 +67,12 @@ name_of (Some (Replay r)) source.Input = unwrap_or r.input []
 name_of (Some (Profile w calls)) source.Program = w.program
 name_of (Some (Profile w calls)) source.Input = unwrap_or w.input []
 name_of (Some (Profile w calls)) source.Output = w.other
+name_of (Some (Values w)) source.Program = w.program
+name_of (Some (Values w)) source.Input = unwrap_or w.input []
+name_of (Some (Values w)) source.Output = w.other
 name_of (Some (Distill d)) source.Program = d.program
 name_of (Some (Distill d)) source.Profile = d.profile
+name_of (Some (Distill d)) source.Values = unwrap_or d.values []
 name_of (Some (Distill d)) source.Output = d.output
 name_of (Some (Check w)) source.Program = w.program
 name_of (Some (Check w)) source.Image = w.other
@@ -92,6 +102,7 @@ elf_words (elf.Larger i) = codes "larger" ∷ decimal i ∷ []
 elf_words (elf.Wraps i) = codes "wraps" ∷ decimal i ∷ []
 elf_words elf.Memory = codes "memory" ∷ []
 
+-- the word for a table of an image
 abbrev pub table_word : Table → List ℕ
 table_word Slots = codes "slots"
 table_word Anchors = codes "anchors"
@@ -134,7 +145,18 @@ profile_words profile.Sum = codes "sum" ∷ []
 profile_words profile.Long = codes "long" ∷ []
 profile_words profile.Memory = codes "memory" ∷ []
 
--- what kind of file is refused, its name, and what it is refused for; a run whose profile is too wide goes by the name of its program
+-- what a list of values is refused for
+abbrev pub values_words : ValuesErr → List (List ℕ)
+values_words values.Short = codes "short" ∷ []
+values_words values.Magic = codes "magic" ∷ []
+values_words values.Version = codes "version" ∷ []
+values_words values.TooMany = codes "too many" ∷ []
+values_words (values.Range i) = codes "range" ∷ decimal i ∷ []
+values_words (values.Order i) = codes "order" ∷ decimal i ∷ []
+values_words values.Long = codes "long" ∷ []
+values_words values.Memory = codes "memory" ∷ []
+
+-- what kind of file is refused, its name, and what it is refused for; a run whose profile or values are too wide goes by the name of its program
 abbrev pub refusal_words : (Source → List ℕ) → Refusal → List (List ℕ)
 refusal_words name (refusal.Program e) = codes "program" ∷ (name source.Program ++ codes ":") ∷ elf_words e
 refusal_words name (refusal.Image e) = codes "image" ∷ (name source.Image ++ codes ":") ∷ image_words e
@@ -142,10 +164,14 @@ refusal_words name (refusal.Events e) = codes "events" ∷ (name source.Events +
 refusal_words name (refusal.Profile e) = codes "profile" ∷ (name source.Profile ++ codes ":") ∷ profile_words e
 refusal_words name refusal.Wide = codes "profile" ∷ (name source.Program ++ codes ":") ∷ codes "wide" ∷ []
 refusal_words name refusal.Empty = codes "profile" ∷ (name source.Profile ++ codes ":") ∷ codes "empty" ∷ []
+refusal_words name (refusal.Values e) = codes "values" ∷ (name source.Values ++ codes ":") ∷ values_words e
+refusal_words name refusal.WideLoads = codes "values" ∷ (name source.Program ++ codes ":") ∷ codes "wide" ∷ []
 
+-- a line on standard error: the program's name, then these words
 abbrev pub fault_line : List (List ℕ) → List ℕ
 fault_line words = line (codes "mssp:") words
 
+-- the line of a run that ended by a trap, at this pc
 abbrev pub trap_line : ℕ → End → List ℕ
 trap_line pc end = fault_line (codes "trap" ∷ hex_word pc ∷ end_words end)
 

@@ -6,6 +6,7 @@ use cells::End;
 use dist_image::ImageErr;
 use elf_reader::ElfErr;
 use event_list::EventErr;
+use load_values::ValuesErr;
 use profile_data::ProfileErr;
 
 /// Which of the files that a command reads or writes.
@@ -15,10 +16,12 @@ pub enum Source {
     Image,
     Events,
     Profile,
+    /// The values of loads.
+    Values,
     Input,
     /// The summary that a run writes.
     Report,
-    /// The profile or the image that a command writes.
+    /// The profile, the values or the image that a command writes.
     Output,
 }
 
@@ -33,6 +36,9 @@ pub enum Refusal {
     Wide,
     /// The profile has nothing that an image could be made of.
     Empty,
+    Values(ValuesErr),
+    /// The program's run executes loads at more addresses than a list of values can hold.
+    WideLoads,
 }
 
 /// What a command came to.
@@ -78,6 +84,7 @@ pub fn status(answer: Answer) -> u8
         Answer::Refused(Refusal::Image(_)) => 117,
         Answer::Refused(Refusal::Events(_)) => 119,
         Answer::Refused(Refusal::Profile(_) | Refusal::Wide | Refusal::Empty) => 118,
+        Answer::Refused(Refusal::Values(_) | Refusal::WideLoads) => 123,
         Answer::Done => 0,
         Answer::Ran {
             end: End::Exit(code),

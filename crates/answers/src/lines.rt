@@ -2,7 +2,7 @@
 ghost use Rattle.std.specs.Prelude.{◌≡◌, [], ◌∷◌, ◌++◌, decimal, option_map, IfOk, OnOk};
 ghost use Rattle.command_line.specs.Command.{shown};
 ghost use Rattle.report.specs.Text.{spaced};
-ghost use Rattle.answers.specs.Answer.{line_of, fault_line, trap_line, name_of, elf_words, table_word, image_words, event_words, profile_words, refusal_words};
+ghost use Rattle.answers.specs.Answer.{line_of, fault_line, trap_line, name_of, elf_words, table_word, image_words, event_words, profile_words, values_words, refusal_words};
 
 use crate::answer::{Answer, Refusal, Source};
 use cells::End;
@@ -10,6 +10,7 @@ use command_line::Command;
 use dist_image::{ImageErr, Table};
 use elf_reader::ElfErr;
 use event_list::EventErr;
+use load_values::ValuesErr;
 use profile_data::ProfileErr;
 use report::{Word, push_end, push_line, push_words};
 use std::alloc::{AllocError, Global};
@@ -31,8 +32,12 @@ fn name<'a>(command: Option<Command<'a>>, source: Source) -> &'a str
         (Some(Command::Profile { walk, .. }), Source::Program) => walk.program,
         (Some(Command::Profile { walk, .. }), Source::Input) => walk.input.unwrap_or(""),
         (Some(Command::Profile { walk, .. }), Source::Output) => walk.other,
+        (Some(Command::Values(walk)), Source::Program) => walk.program,
+        (Some(Command::Values(walk)), Source::Input) => walk.input.unwrap_or(""),
+        (Some(Command::Values(walk)), Source::Output) => walk.other,
         (Some(Command::Distill(distill)), Source::Program) => distill.program,
         (Some(Command::Distill(distill)), Source::Profile) => distill.profile,
+        (Some(Command::Distill(distill)), Source::Values) => distill.values.unwrap_or(""),
         (Some(Command::Distill(distill)), Source::Output) => distill.output,
         (Some(Command::Check(walk)), Source::Program) => walk.program,
         (Some(Command::Check(walk)), Source::Image) => walk.other,
@@ -149,6 +154,21 @@ fn push_profile(out: &mut Vec<u8>, refusal: ProfileErr) -> Result<(), AllocError
     }
 }
 
+fn push_values(out: &mut Vec<u8>, refusal: ValuesErr) -> Result<(), AllocError>
+    ensures { OnOk result (out.new.items ≡ out.old.items ++ spaced (values_words refusal)) }
+{
+    match refusal {
+        ValuesErr::Short => push_words(out, &[Word::Text("short")]),
+        ValuesErr::Magic => push_words(out, &[Word::Text("magic")]),
+        ValuesErr::Version => push_words(out, &[Word::Text("version")]),
+        ValuesErr::TooMany => push_words(out, &[Word::Text("too many")]),
+        ValuesErr::Range(i) => push_row(out, "range", i),
+        ValuesErr::Order(i) => push_row(out, "order", i),
+        ValuesErr::Long => push_words(out, &[Word::Text("long")]),
+        ValuesErr::Memory => push_words(out, &[Word::Text("memory")]),
+    }
+}
+
 fn push_refusal(
     out: &mut Vec<u8>,
     refusal: Refusal,
@@ -187,6 +207,16 @@ fn push_refusal(
             let profile = name(command, Source::Profile);
             let what = Word::Text("empty");
             push_words(out, &[Word::Text("profile"), Word::Label(profile), what])
+        }
+        Refusal::Values(what) => {
+            let values = name(command, Source::Values);
+            push_words(out, &[Word::Text("values"), Word::Label(values)])?;
+            push_values(out, what)
+        }
+        Refusal::WideLoads => {
+            let program = name(command, Source::Program);
+            let what = Word::Text("wide");
+            push_words(out, &[Word::Text("values"), Word::Label(program), what])
         }
     }
 }

@@ -1,10 +1,10 @@
 -- What the words of the command line ask for. A word is its bytes.
 use Rattle.std.specs.Prelude.{ℕ, ◌^◌, Bool, ◌&&◌, ◌==◌, if◌then◌else◌, List, [], ◌∷◌, ◌++◌, codes, option_map, option_and_then, option_copied, is_some, is_none, Option, Some, None}
 use Rattle.command_line.specs.declared.commands.Command.{Command as ReadCommand}
-use Rattle.command_line.specs.declared.commands.Command.TheVariants.{Run as ReadRun, Show as ReadShow, Replay as ReadReplay, Profile as ReadProfile, Distill as ReadDistill, Check as ReadCheck, Certify as ReadCertify, Trial as ReadTrial}
+use Rattle.command_line.specs.declared.commands.Command.TheVariants.{Run as ReadRun, Show as ReadShow, Replay as ReadReplay, Profile as ReadProfile, Values as ReadValues, Distill as ReadDistill, Check as ReadCheck, Certify as ReadCertify, Trial as ReadTrial}
 use Rattle.command_line.specs.declared.commands.Run.{Run as ReadRunCommand}
 use Rattle.command_line.specs.declared.commands.Replay.{Replay as ReadReplayCommand}
-use Rattle.command_line.specs.declared.commands.Walk.{Walk as ReadWalkCommand}
+use Rattle.command_line.specs.declared.commands.RunOptions.{RunOptions as ReadWalkCommand}
 use Rattle.command_line.specs.declared.commands.Distill.{Distill as ReadDistillCommand}
 use Rattle.command_line.specs.declared.commands.Trial.{Trial as ReadTrialCommand}
 use Rattle.command_line.specs.declared.options.Kind.{Kind}
@@ -29,18 +29,20 @@ pub record ReplayCommand : Type 0 where
   pub input : Option (List ℕ)
   pub slaves : ℕ
 
--- `profile PROG OUT` and `check PROG IMAGE`: the names of the program, of the other file and of the input, if there is one, and the number of steps
+-- `profile PROG OUT`, `values PROG OUT` and `check PROG IMAGE`: the names of the program, of the other file and of the input, if there is one, and the number of steps
 pub record WalkCommand : Type 0 where
   pub program : List ℕ
   pub other : List ℕ
   pub input : Option (List ℕ)
   pub budget : ℕ
 
--- `distill PROG PROFILE OUT`: the names of the program, of the profile and of the image that is written, and the numbers that say how it is made
+-- `distill PROG PROFILE OUT`: the names of the program, of the profile, of the values of loads, if there are such, and of the image that is written, and
+-- the numbers that say how it is made
 pub record DistillCommand : Type 0 where
   pub program : List ℕ
   pub profile : List ℕ
   pub output : List ℕ
+  pub values : Option (List ℕ)
   pub rare : ℕ
   pub hot : ℕ
   pub goal : ℕ
@@ -58,6 +60,7 @@ pub data Command : Type 0 where
   Show : (image : List ℕ) → Command
   Replay : ReplayCommand → Command
   Profile : WalkCommand → (calls : Bool) → Command
+  Values : WalkCommand → Command
   Distill : DistillCommand → Command
   Check : WalkCommand → Command
   Certify : (program image : List ℕ) → Command
@@ -112,10 +115,11 @@ replay_of (program ∷ image ∷ events ∷ options) =
     })
     else None
 
--- the options of `check`, and those of `profile`
+-- the options of `check` and of `values`, and those of `profile`
 abbrev pub check_options : List (List ℕ × Kind)
 check_options = (codes "--input", File) ∷ (codes "--budget", Number 1 (10 ^ 12)) ∷ []
 
+-- the options of `profile`: those of `check`, and `--calls`
 abbrev pub profile_options : List (List ℕ × Kind)
 profile_options = check_options ++ (codes "--calls", Number 0 1) ∷ []
 
@@ -128,7 +132,7 @@ walk_with program other options = record {
   budget = number_or (10 ^ 9) (codes "--budget") options;
 }
 
--- what the words after `check` ask for: two names, and then options
+-- what the words after `check` or `values` ask for: two names, and then options
 abbrev pub check_of : List (List ℕ) → Option WalkCommand
 check_of [] = None
 check_of (program ∷ []) = None
@@ -147,7 +151,12 @@ profile_of (program ∷ other ∷ options) =
 -- the options of `distill`
 abbrev pub distill_options : List (List ℕ × Kind)
 distill_options =
-    (codes "--rare", Number 0 100) ∷ (codes "--hot", Number 1 (10 ^ 12)) ∷ (codes "--goal", Number 1 65536) ∷ (codes "--limit", Number 16 16384) ∷ []
+    (codes "--values", File)
+    ∷ (codes "--rare", Number 0 100)
+    ∷ (codes "--hot", Number 1 (10 ^ 12))
+    ∷ (codes "--goal", Number 1 65536)
+    ∷ (codes "--limit", Number 16 16384)
+    ∷ []
 
 -- a distillation with options
 abbrev pub distill_with : List ℕ → List ℕ → List ℕ → List (List ℕ) → DistillCommand
@@ -155,6 +164,7 @@ distill_with program profile output options = record {
   program = program;
   profile = profile;
   output = output;
+  values = value_of (codes "--values") options;
   rare = number_or 10 (codes "--rare") options;
   hot = number_or 2 (codes "--hot") options;
   goal = number_or 200 (codes "--goal") options;
@@ -191,6 +201,7 @@ command_of (command ∷ words) =
     else if same command (codes "show") then show_of words
     else if same command (codes "replay") then option_map Replay (replay_of words)
     else if same command (codes "profile") then profile_of words
+    else if same command (codes "values") then option_map Values (check_of words)
     else if same command (codes "distill") then option_map Distill (distill_of words)
     else if same command (codes "check") then option_map Check (check_of words)
     else if same command (codes "certify") then certify_of words
@@ -208,6 +219,7 @@ shown_run run = record {
   budget = run.budget;
 }
 
+-- what a `replay` that was read means
 abbrev pub shown_replay : ReadReplayCommand → ReplayCommand
 shown_replay replay = record {
   program = replay.program.now;
@@ -217,6 +229,7 @@ shown_replay replay = record {
   slaves = replay.slaves;
 }
 
+-- what a command over one program and one other file means
 abbrev pub shown_walk : ReadWalkCommand → WalkCommand
 shown_walk walk = record {
   program = walk.program.now;
@@ -225,25 +238,30 @@ shown_walk walk = record {
   budget = walk.budget;
 }
 
+-- what a `distill` that was read means
 abbrev pub shown_distill : ReadDistillCommand → DistillCommand
 shown_distill distill = record {
   program = distill.program.now;
   profile = distill.profile.now;
   output = distill.output.now;
+  values = option_copied distill.values;
   rare = distill.rare;
   hot = distill.hot;
   goal = distill.goal;
   limit = distill.limit;
 }
 
+-- what a `trial` that was read means
 abbrev pub shown_trial : ReadTrialCommand → TrialCommand
 shown_trial trial = record { seed = trial.seed; size = trial.size }
 
+-- what a command that was read means
 abbrev pub shown : ReadCommand → Command
 shown (ReadRun run) = Run (shown_run run)
 shown (ReadShow image) = Show image.now
 shown (ReadReplay replay) = Replay (shown_replay replay)
 shown (ReadProfile walk calls) = Profile (shown_walk walk) calls
+shown (ReadValues walk) = Values (shown_walk walk)
 shown (ReadDistill distill) = Distill (shown_distill distill)
 shown (ReadCheck walk) = Check (shown_walk walk)
 shown (ReadCertify program image) = Certify program.now image.now

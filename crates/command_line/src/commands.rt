@@ -40,12 +40,13 @@ pub struct Replay<'a> {
     pub ghost few: { slaves ≤ 64 },
 }
 
-/// `profile PROG OUT` and `check PROG IMAGE`: take a program through its run.
+/// `profile PROG OUT`, `values PROG OUT` and `check PROG IMAGE`: take a program through its run.
 #[derive(Clone, Copy, Debug, PartialEq, Eq)]
-pub struct Walk<'a> {
+pub struct RunOptions<'a> {
     /// The name of the program's file.
     pub program: &'a str,
-    /// The name of the other file: the profile that `profile` writes, or the image that `check` reads.
+    /// The name of the other file: the profile that `profile` writes, the values that `values` writes,
+    /// or the image that `check` reads.
     pub other: &'a str,
     /// The name of the file that the program reads; without one its input is empty.
     pub input: Option<&'a str>,
@@ -64,6 +65,8 @@ pub struct Distill<'a> {
     pub profile: &'a str,
     /// The name of the file that the image is written to.
     pub output: &'a str,
+    /// The name of the file that has the values of loads, if such are to be constants in the image.
+    pub values: Option<&'a str>,
     /// Up to how many turns in a thousand a side of a branch may be taken to be cut, from 0 to 100.
     pub rare: u32,
     /// How often a jump's target has to be executed to be an anchor, from 1 to 10^12.
@@ -108,14 +111,16 @@ pub enum Command<'a> {
     /// `profile`: writes the profile of a run.
     Profile {
         /// The program, and the name of the profile's file.
-        walk: Walk<'a>,
+        walk: RunOptions<'a>,
         /// Whether short writes are counted, so that tasks may do them.
         calls: bool,
     },
+    /// `values`: writes the loads of a run that gave one value.
+    Values(RunOptions<'a>),
     /// `distill`.
     Distill(Distill<'a>),
     /// `check`: tells whether a run meets the assumptions of an image.
-    Check(Walk<'a>),
+    Check(RunOptions<'a>),
     /// `certify PROG IMAGE`: tells whether an image fits a program, or which rule it breaks first.
     Certify {
         /// The name of the program's file.

@@ -4,7 +4,7 @@ ghost use Rattle.command_line.specs.Command.{distill_options, distill_with, dist
 ghost use Rattle.command_line.specs.Options.{are_options};
 
 use crate::commands::Distill;
-use crate::options::{Kind, Rule, are_options, number_or};
+use crate::options::{Kind, Rule, are_options, number_or, value_of};
 
 /// A side of a branch may be taken in so many turns of a thousand, and cut.
 const MOST_RARE: u64 = 100;
@@ -34,7 +34,11 @@ const MOST_LIMIT: u64 = 16_384;
 const DEFAULT_LIMIT: u64 = 4_096;
 
 /// The options of `distill`.
-const DISTILL_OPTIONS: [Rule; 4] = [
+const DISTILL_OPTIONS: [Rule; 5] = [
+    Rule {
+        option: "--values",
+        value: Kind::File,
+    },
     Rule {
         option: "--rare",
         value: Kind::Number {
@@ -79,6 +83,7 @@ fn read_options<'a>(
         program,
         profile,
         output,
+        values: value_of(options, "--values"),
         rare: number_or(options, "--rare", DEFAULT_RARE) as u32,
         hot: number_or(options, "--hot", DEFAULT_HOT),
         goal: number_or(options, "--goal", DEFAULT_GOAL) as u32,

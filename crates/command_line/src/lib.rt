@@ -15,7 +15,7 @@ mod tests;
 mod trial_words;
 mod walk_words;
 
-pub use crate::commands::{Command, Distill, Replay, Run, Trial, Walk};
+pub use crate::commands::{Command, Distill, Replay, Run, RunOptions, Trial};
 use crate::distill_words::read_distill;
 use crate::options::{Rule, are_options};
 use crate::replay_words::read_replay;
@@ -70,7 +70,8 @@ fn read_certify(words: &[String]) -> Option<Command<'_>>
 /// | `show IMAGE` | |
 /// | `replay PROG IMAGE EVENTS` | `--input F`, `--slaves` 1 to 64 (4) |
 /// | `profile PROG OUT` | `--input F`, `--budget` 1 to 10^12 (10^9), `--calls` 0 to 1 (0) |
-/// | `distill PROG PROFILE OUT` | `--rare` 0 to 100 (10), `--hot` 1 to 10^12 (2), `--goal` 1 to 65,536 (200), `--limit` 16 to 16,384 (4,096) |
+/// | `values PROG OUT` | `--input F`, `--budget` 1 to 10^12 (10^9) |
+/// | `distill PROG PROFILE OUT` | `--values F`, `--rare` 0 to 100 (10), `--hot` 1 to 10^12 (2), `--goal` 1 to 65,536 (200), `--limit` 16 to 16,384 (4,096) |
 /// | `check PROG IMAGE` | `--input F`, `--budget` 1 to 10^12 (10^9) |
 /// | `certify PROG IMAGE` | |
 /// | `trial SEED SIZE` | |
@@ -85,6 +86,7 @@ pub fn read_command(words: &[String]) -> Option<Command<'_>>
         "show" => read_show(rest),
         "replay" => read_replay(rest).map(Command::Replay),
         "profile" => read_profile(rest),
+        "values" => read_check(rest).map(Command::Values),
         "distill" => read_distill(rest).map(Command::Distill),
         "check" => read_check(rest).map(Command::Check),
         "certify" => read_certify(rest),

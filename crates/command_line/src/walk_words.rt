@@ -1,19 +1,19 @@
-//! The words of `profile` and `check`: two names, an input and a budget, and what `profile` counts.
+//! The words of `profile`, `values` and `check`: two names, an input and a budget, and what `profile` counts.
 ghost use Rattle.std.specs.Prelude.{◌≡◌, ◌≤◌, ◌^◌, codes, map, option_map, string_bytes};
 ghost use Rattle.command_line.specs.Options.{number_or, IsNumberIfGiven};
 ghost use Rattle.command_line.specs.Command.{check_of, profile_of, walk_with, shown, shown_walk};
 
-use crate::commands::{Command, Walk};
+use crate::commands::{Command, RunOptions};
 use crate::options::{Kind, Rule, are_options, number_or, value_of};
 use crate::run_words::{DEFAULT_BUDGET, MOST_BUDGET};
 
-/// `--input`, of both.
+/// `--input`, of all.
 const INPUT: Rule = Rule {
     option: "--input",
     value: Kind::File,
 };
 
-/// `--budget`, of both.
+/// `--budget`, of all.
 const BUDGET: Rule = Rule {
     option: "--budget",
     value: Kind::Number {
@@ -28,20 +28,20 @@ const CALLS: Rule = Rule {
     value: Kind::Number { least: 0, most: 1 },
 };
 
-/// The options of `check`.
+/// The options of `check` and `values`.
 const CHECK_OPTIONS: [Rule; 2] = [INPUT, BUDGET];
 
 /// The options of `profile`.
 const PROFILE_OPTIONS: [Rule; 3] = [INPUT, BUDGET, CALLS];
 
-// What the options after the two names ask of both.
-fn walk_with<'a>(program: &'a str, other: &'a str, options: &'a [String]) -> Walk<'a>
+// What the options after the two names ask of all.
+fn walk_with<'a>(program: &'a str, other: &'a str, options: &'a [String]) -> RunOptions<'a>
     requires given { IsNumberIfGiven (codes "--budget") (map string_bytes options.now) }
     requires least { 1 ≤ number_or (10 ^ 9) (codes "--budget") (map string_bytes options.now) }
     requires most { number_or (10 ^ 9) (codes "--budget") (map string_bytes options.now) ≤ 10 ^ 12 }
     ensures { shown_walk result ≡ walk_with program.now other.now (map string_bytes options.now) }
 {
-    Walk {
+    RunOptions {
         program,
         other,
         input: value_of(options, "--input"),
@@ -49,8 +49,8 @@ fn walk_with<'a>(program: &'a str, other: &'a str, options: &'a [String]) -> Wal
     }
 }
 
-/// What the words after `check` ask for.
-pub(crate) fn read_check(words: &[String]) -> Option<Walk<'_>>
+/// What the words after `check` or `values` ask for.
+pub(crate) fn read_check(words: &[String]) -> Option<RunOptions<'_>>
     ensures { option_map shown_walk result ≡ check_of (map string_bytes words.now) }
 {
     match words {

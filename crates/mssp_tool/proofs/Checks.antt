@@ -5,8 +5,8 @@ use Rattle.std.proofs.lemmas.Bool.{cases_Bool, cases_eq, or_cases, or_left, or_r
 use Rattle.std.proofs.lemmas.Bool.Decides.{nat_tests}
 use Rattle.std.proofs.lemmas.Option.{slice_get_within}
 use Rattle.cells.specs.Run.{State, is_over, printed}
-use Rattle.rv_run.specs.Machine.{machine}
-use Rattle.rv_run.specs.Calls.{call}
+use Rattle.rv_semantics.specs.Machine.{machine}
+use Rattle.rv_semantics.specs.Calls.{call}
 use Rattle.command_line.specs.Command.{WalkCommand}
 use Rattle.dist_image.specs.Image.{Premise, Cut, Targets, Dead, Code, Within, Span, Same, Distilled, IsImage}
 use Rattle.elf_reader.specs.Executable.{Executable}
@@ -14,9 +14,9 @@ use Rattle.seq_machine.specs.Parts.{start_of}
 use Rattle.fitting.specs.Fails.{state_at, Fails, Meets}
 use Rattle.profile_laws.specs.Profiles.{count_below, steps}
 use Rattle.profile_laws.proofs.Steps.{steps_are_taken}
-use Rattle.assume_laws.specs.Looks.{look_at, fails_by, first_from, first_failing, span_fails}
-use Rattle.assume_laws.proofs.Tests.{looks_tell}
-use Rattle.assume_laws.proofs.Spans.{span_is_told}
+use Rattle.assumption_laws.specs.Looks.{look_at, fails_by, first_from, first_failing, span_fails}
+use Rattle.assumption_laws.proofs.Tests.{looks_tell}
+use Rattle.assumption_laws.proofs.Spans.{span_is_told}
 use Rattle.assume_list.specs.declared.verdict.Verdict.{Verdict}
 use Rattle.assume_list.specs.declared.verdict.Verdict.TheVariants as verdict
 use Rattle.assume_list.specs.Passes.{is_span}
@@ -24,7 +24,7 @@ use Rattle.assume_list.specs.Verdicts.{IsLesser, IsVerdict}
 use Rattle.report.specs.Verdict.{verdict_line, IsOfList}
 use Rattle.answers.specs.declared.answer.Answer.{Answer}
 use Rattle.answers.specs.declared.answer.Answer.TheVariants.{Done, Broken}
-use Rattle.mssp_tool.specs.Told.{Reads, Puts, Got}
+use Rattle.speculative_runs.specs.Told.{Reads, Puts, Got}
 use Rattle.mssp_tool.specs.Check.{HasCheckFiles, verdict_answer, Judged, CheckCause, fails_at, is_met}
 
 -- ---- what is put

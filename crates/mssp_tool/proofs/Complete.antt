@@ -1,16 +1,17 @@
 -- Where the store tells and nothing fails, an answer with its cause is the one that the files determine, or want of memory.
 use Rattle.std.proofs.Common.{◌≡◌, ℕ, ◌≤◌, ◌<◌, ◌⊎◌, inl, inr, List, length, Option, Some, None, refl, sym, ap, subst, ◌∙◌, arith}
-use Rattle.std.specs.Prelude.{nat_lt, nat_eq, cond, Bool, false, ◌≢◌, [], ◌∷◌}
+use Rattle.std.specs.Prelude.{nat_lt, nat_eq, cond, Bool, true, false, ◌≢◌, [], ◌∷◌}
 use Rattle.std.specs.FinMap as finite
 use Rattle.std.proofs.lemmas.Bool.{cond-true, cond-false}
 use Rattle.std.proofs.lemmas.Bool.Decides.{nat_tests}
 use Rattle.outside.specs.Files.{Files}
-use Rattle.command_line.specs.Command.{Command, Run, Show, Replay, Profile, Distill, Check, Certify, Trial, RunCommand, ReplayCommand, WalkCommand, DistillCommand, TrialCommand}
+use Rattle.command_line.specs.Command.{Command, Run, Show, Replay, Profile, Values, Distill, Check, Certify, Trial, RunCommand, ReplayCommand, WalkCommand, DistillCommand, TrialCommand}
 use Rattle.dist_image.specs.Image.{Distilled}
 use Rattle.dist_image.specs.Reading.{image_from}
 use Rattle.elf_reader.specs.Refusal.{refusal}
 use Rattle.speculation.specs.declared.Event.{Event}
 use Rattle.event_list.specs.Reading.{list_in, written_out}
+use Rattle.load_values.specs.Reading.{values_from}
 use Rattle.profile_data.specs.Profile.{Profiled}
 use Rattle.profile_laws.specs.Profiles.{with_mark, steps}
 use Rattle.profile_laws.specs.Tally.{kept}
@@ -20,15 +21,16 @@ use Rattle.answers.specs.declared.answer.Source.TheVariants as source
 use Rattle.answers.specs.declared.answer.Refusal.TheVariants as refused
 use Rattle.answers.specs.declared.answer.Answer.{Answer}
 use Rattle.answers.specs.declared.answer.Answer.TheVariants.{Usage, Absent, StoreFault, SinkFault, Memory, TooLong, Refused, Done, Ran, Budget, Broken}
-use Rattle.mssp_tool.specs.Told.{Reads, Puts, Fails, PutFails, Delivered, Spoken}
-use Rattle.mssp_tool.specs.Files.{IsReadFrom, NotRead, of_file, IsProgramOf, NoProgram, unless_refused, of_program, HasImage, NoImage, of_reading, of_image, IsNamedImage, NoNamedImage, of_named_image, HasEvents, NoEvents, of_events, IsInput, NoInput, of_input, Saved, HasProfile, NoProfile, of_profile, program_limit, image_limit, events_limit, profile_limit, input_limit}
-use Rattle.mssp_tool.specs.Driven.{CutOff, Driven, state_after, stands}
-use Rattle.mssp_tool.specs.Run.{Unready, AreRunFiles, RunFrom, RunCause, start_from, world_from, run_answer}
-use Rattle.mssp_tool.specs.Speculated.{schedule_of, events_of, IsStop, Stopped}
-use Rattle.schedules.specs.Schedule.{after}
+use Rattle.speculative_runs.specs.Told.{Reads, Puts, Fails, PutFails, Delivered, Spoken}
+use Rattle.mssp_tool.specs.Files.{IsReadFrom, NotRead, of_file, IsProgramOf, NoProgram, unless_refused, of_program, HasImage, NoImage, of_reading, of_image, IsNamedImage, NoNamedImage, of_named_image, HasEvents, NoEvents, of_events, IsInput, NoInput, of_input, Saved, HasProfile, NoProfile, of_profile, program_limit, image_limit, events_limit, profile_limit, input_limit, HasValues, NoValues, of_values, AreNamedValues, NoNamedValues, of_named_values, values_limit}
+use Rattle.speculative_runs.specs.Driven.{CutOff, Driven, state_after, stands}
+use Rattle.mssp_tool.specs.Run.{Unready, AreRunFiles, RunFrom, RunCause, start_from, world_from, models_from, run_answer}
+use Rattle.speculative_runs.specs.Speculated.{IsStop, Stopped}
+use Rattle.speculation.specs.Engine.{Model}
 use Rattle.mssp_tool.proofs.Exact.{stands_so}
 use Rattle.mssp_tool.specs.Show.{ShowCause, show_answer}
-use Rattle.mssp_tool.specs.Replay.{Wanting, ReplayCause, replay_bytes, replay_answer}
+use Rattle.speculative_runs.specs.Replayed.{replay_bytes}
+use Rattle.mssp_tool.specs.Replay.{Wanting, ReplayCause, replay_answer}
 use Rattle.mssp_tool.specs.Profile.{Unprofiled, IsProfileFrom, Profiles, ProfileCause, is_wide, profile_answer}
 use Rattle.profile_data.specs.Reading.{profile_from}
 use Rattle.distill_rules.specs.Analysed.{analysed}
@@ -37,6 +39,7 @@ use Rattle.report.specs.Verdict.{verdict_line}
 use Rattle.mssp_tool.specs.Check.{Unchecked, verdict_answer, CheckCause, is_met, check_answer}
 use Rattle.mssp_tool.specs.Certify.{Uncertified, fit_line, fit_answer, CertifyCause, certify_answer, IsCertified}
 use Rattle.mssp_tool.proofs.Checks.{verdict_tested}
+use Rattle.mssp_tool.specs.Values.{Finds, ValuesCause, loads_too_many, values_answer}
 use Rattle.mssp_tool.specs.Distill.{Undistilled, Distills, DistillCause, distill_answer}
 use Rattle.elf_reader.specs.Accepted.{program_of}
 use Rattle.mssp_tool.proofs.Profiles.{wide_tested, narrow_tested, its_rows}
@@ -57,6 +60,13 @@ longer file bytes limit s k e l = ap (λ f. of_file f limit s k) e ∙ cond-true
 some_tested : (xs : List ℕ) → xs ≢ [] → nat_eq (length xs) 0 ≡ false
 some_tested [] h = absurd (h refl)
 some_tested (x ∷ xs) h = grind (arith, nat_tests)
+
+-- loads at more than 524,288 addresses
+wide_loads_tested : (n : ℕ) → 524_288 < n → nat_lt 524_288 n ≡ true
+wide_loads_tested n h = grind (arith, nat_tests)
+
+few_loads_tested : (n : ℕ) → (524_288 < n → ⊥) → nat_lt 524_288 n ≡ false
+few_loads_tested n h = let few : n ≤ 524_288 = grind (arith, nat_tests, h) in grind (arith, nat_tests)
 
 -- it is this answer, or want of memory
 abbrev Is : Answer → Answer → Type 0
@@ -79,12 +89,12 @@ module _ (store : Reads) (out : Puts) (files : Files) (told : store.told ≡ Som
   not_read name limit s k (Absent t) (same, inl (fs, e, none)) =
       let here : finite.get files name ≡ None = ap (λ m. finite.get m name) (sym (same_files fs e)) ∙ none in
       inl (ap Absent same ∙ sym (ap (λ f. of_file f limit s k) here))
-  not_read name limit s k (Absent t) (same, inr r) = absurd (reads r)
+  not_read name limit s k (Absent t) (same, inr r) = absurd (reads r.0)
   not_read name limit s k (TooLong t) (same, inl (fs, bytes, e, some, l)) =
       let here : finite.get files name ≡ Some bytes = ap (λ m. finite.get m name) (sym (same_files fs e)) ∙ some in
       inl (ap TooLong same ∙ sym (longer (finite.get files name) bytes limit s k here l))
-  not_read name limit s k (TooLong t) (same, inr r) = absurd (reads r)
-  not_read name limit s k (StoreFault t) (same, r) = absurd (reads r)
+  not_read name limit s k (TooLong t) (same, inr r) = absurd (reads r.0)
+  not_read name limit s k (StoreFault t) (same, r) = absurd (reads r.0)
   not_read name limit s k Memory h = inr refl
   not_read name limit s k Usage h = absurd h
   not_read name limit s k Broken h = absurd h
@@ -132,6 +142,21 @@ module _ (store : Reads) (out : Puts) (files : Files) (told : store.told ≡ Som
   no_profile name k a (inl h) = not_read name profile_limit source.Profile (λ b. of_reading (profile_from b) refused.Profile k) a h
   no_profile name k a (inr (bytes, e, h, fault, is)) =
       inl (is ∙ sym (read name bytes profile_limit source.Profile (λ b. of_reading (profile_from b) refused.Profile k) h ∙ ap (λ r. of_reading r refused.Profile k) fault))
+
+  values : (name : List ℕ) (rows : List (ℕ × ℕ)) (k : List (ℕ × ℕ) → Answer) → HasValues store.told name rows → of_values files name k ≡ k rows
+  values name rows k (bytes, h) = read name bytes values_limit source.Values (λ b. of_reading (values_from b) refused.Values k) h.read ∙ ap (λ r. of_reading r refused.Values k) h.accepted
+
+  no_values : (name : List ℕ) (k : List (ℕ × ℕ) → Answer) (a : Answer) → NoValues store name a → Is a (of_values files name k)
+  no_values name k a (inl h) = not_read name values_limit source.Values (λ b. of_reading (values_from b) refused.Values k) a h
+  no_values name k a (inr (bytes, e, h, fault, is)) =
+      inl (is ∙ sym (read name bytes values_limit source.Values (λ b. of_reading (values_from b) refused.Values k) h ∙ ap (λ r. of_reading r refused.Values k) fault))
+
+  named_values : (named : Option (List ℕ)) (rows : List (ℕ × ℕ)) (k : List (ℕ × ℕ) → Answer) → AreNamedValues store.told named rows → of_named_values files named k ≡ k rows
+  named_values None rows k e = ap k (sym e)
+  named_values (Some name) rows k h = values name rows k h
+
+  no_named_values : (named : Option (List ℕ)) (k : List (ℕ × ℕ) → Answer) (a : Answer) → NoNamedValues store named a → Is a (of_named_values files named k)
+  no_named_values named k a (name, is, h) = is_also a (of_named_values files (Some name) k) (of_named_values files named k) (ap (λ n. of_named_values files n k) (sym is)) (no_values name k a h)
 
   input : (named : Option (List ℕ)) (i : List ℕ) (k : List ℕ → Answer) → IsInput store.told named i → of_input files named k ≡ k i
   input None i k e = ap k (sym e)
@@ -206,28 +231,28 @@ module _ (store : Reads) (out : Puts) (files : Files) (told : store.told ≡ Som
       driven (Refused e) x = absurd x
       driven Done x = absurd x
 
-      stopped : (left : Option Files) (name : List ℕ) (k : ℕ) (a : Answer)
-          → IsStop (world_from p i im r.slaves) (events_of (schedule_of r.image) r.slaves) r.budget k
-          → Stopped (after (world_from p i im r.slaves) (events_of (schedule_of r.image) r.slaves) k) name store left out a → Is a (run_answer files r)
-      stopped left name k (Ran pc end) stop (got, wrote, is) = told_so (Ran pc end) (is ∙ stands_so (start_from p i) im r.slaves (events_of (schedule_of r.image) r.slaves) r.budget k stop.sequential)
-      stopped left name k Budget stop (got, wrote, is) = told_so Budget (is ∙ stands_so (start_from p i) im r.slaves (events_of (schedule_of r.image) r.slaves) r.budget k stop.sequential)
-      stopped left name k (StoreFault s) stop (got, (same, fails, others)) = absurd (reads fails)
-      stopped left name k SinkFault stop x = cut_off (after (world_from p i im r.slaves) (events_of (schedule_of r.image) r.slaves) k).committed.env.output SinkFault x.0
-      stopped left name k Memory stop x = cut_off (after (world_from p i im r.slaves) (events_of (schedule_of r.image) r.slaves) k).committed.env.output Memory x.0
-      stopped left name k Usage stop x = absurd x.0
-      stopped left name k Broken stop x = absurd x.0
-      stopped left name k (Absent s) stop x = absurd x.0
-      stopped left name k (TooLong s) stop x = absurd x.0
-      stopped left name k (Refused e) stop x = absurd x.0
-      stopped left name k Done stop x = absurd x.0
+      stopped : (models : ℕ → Model) (left : Option Files) (name : List ℕ) (k : ℕ) (a : Answer)
+          → IsStop (world_from p i im r.slaves) models r.budget k
+          → Stopped (models k) name store left out a → Is a (run_answer files r)
+      stopped models left name k (Ran pc end) stop (got, wrote, is) = told_so (Ran pc end) (is ∙ stands_so (start_from p i) im r.slaves models r.budget k stop.sequential)
+      stopped models left name k Budget stop (got, wrote, is) = told_so Budget (is ∙ stands_so (start_from p i) im r.slaves models r.budget k stop.sequential)
+      stopped models left name k (StoreFault s) stop (got, (same, fails, others)) = absurd (reads fails.0)
+      stopped models left name k SinkFault stop x = cut_off (models k).committed.env.output SinkFault x.0
+      stopped models left name k Memory stop x = cut_off (models k).committed.env.output Memory x.0
+      stopped models left name k Usage stop x = absurd x.0
+      stopped models left name k Broken stop x = absurd x.0
+      stopped models left name k (Absent s) stop x = absurd x.0
+      stopped models left name k (TooLong s) stop x = absurd x.0
+      stopped models left name k (Refused e) stop x = absurd x.0
+      stopped models left name k Done stop x = absurd x.0
 
-      run_from : (left : Option Files) (report : Option (List ℕ)) (a : Answer) → RunFrom report r (world_from p i im r.slaves) store left out a → Is a (run_answer files r)
-      run_from left None a (d, same) = driven a d
-      run_from left (Some name) a (k, stop, s) = stopped left name k a stop s
+      run_from : (models : ℕ → Model) (left : Option Files) (report : Option (List ℕ)) (a : Answer) → RunFrom report r (world_from p i im r.slaves) models store left out a → Is a (run_answer files r)
+      run_from models left None a (d, same) = driven a d
+      run_from models left (Some name) a (k, stop, s) = stopped models left name k a stop s
 
     run_complete : (left : Option Files) (a : Answer) → RunCause store left r out a → Is a (run_answer files r)
     run_complete left a (inl h) = unready a h.0
-    run_complete left a (inr (p, i, im, fs, d)) = run_from p i im fs left r.report a d
+    run_complete left a (inr (p, i, im, fs, d)) = run_from p i im fs (models_from r (start_from p i) im) left r.report a d
 
   -- ---- `show`
 
@@ -269,7 +294,7 @@ module _ (store : Reads) (out : Puts) (files : Files) (told : store.told ≡ Som
 
   saved : (left : Option Files) (name bytes : List ℕ) (a : Answer) → Saved store left name bytes a → Is a Done
   saved left name bytes Done h = inl refl
-  saved left name bytes (StoreFault s) (same, fails, others) = absurd (reads fails)
+  saved left name bytes (StoreFault s) (same, fails, others) = absurd (reads fails.0)
   saved left name bytes Memory h = inr refl
   saved left name bytes Usage h = absurd h
   saved left name bytes Broken h = absurd h
@@ -309,11 +334,38 @@ module _ (store : Reads) (out : Puts) (files : Files) (told : store.told ≡ Som
     profile_complete left a (inr (p, i, f, hp, hi, is, s)) =
         is_also a (after_profiled_input p i) (profile_answer files w calls) (sym (program w.program p after_profiled_program hp ∙ input w.input i (after_profiled_input p) hi)) (profiled left p i f a is s)
 
+  -- ---- `values`
+
+  module _ (w : WalkCommand) where
+    abbrev after_found_input : List ℕ → List ℕ → Answer
+    after_found_input p i = cond (loads_too_many p i w.budget) (Refused refused.WideLoads) Done
+
+    abbrev after_found_program : List ℕ → Answer
+    after_found_program p = of_input files w.input (after_found_input p)
+
+    unfound : (a : Answer) → Unprofiled store w a → Is a (values_answer files w)
+    unfound a (inl h) = no_program w.program after_found_program a h
+    unfound a (inr (inl (p, h, n))) = is_also a (after_found_program p) (values_answer files w) (sym (program w.program p after_found_program h)) (no_input w.input (after_found_input p) a n)
+    unfound a (inr (inr m)) = inr m
+
+    finds : (left : Option Files) (p i : List ℕ) (a : Answer) → Finds p i w store left a → Is a (after_found_input p i)
+    finds left p i a (inl (wide, refusal_is, same)) = inl (refusal_is ∙ sym (cond-true (loads_too_many p i w.budget) (Refused refused.WideLoads) Done (wide_loads_tested _ wide)))
+    finds left p i a (inr (rows, narrow, is, s)) =
+        is_also a Done (after_found_input p i) (sym (cond-false (loads_too_many p i w.budget) (Refused refused.WideLoads) Done (few_loads_tested _ narrow))) (saved left w.other _ a s)
+
+    values_complete : (left : Option Files) (a : Answer) → ValuesCause store left w a → Is a (values_answer files w)
+    values_complete left a (inl (h, same)) = unfound a h
+    values_complete left a (inr (p, i, hp, hi, s)) =
+        is_also a (after_found_input p i) (values_answer files w) (sym (program w.program p after_found_program hp ∙ input w.input i (after_found_input p) hi)) (finds left p i a s)
+
   -- ---- `distill`
 
   module _ (d : DistillCommand) where
+    abbrev after_named : Profiled → Answer
+    after_named f = cond (nat_eq (length (analysed f.rows)) 0) (Refused refused.Empty) Done
+
     abbrev after_profile : Profiled → Answer
-    after_profile f = cond (nat_eq (length (analysed f.rows)) 0) (Refused refused.Empty) Done
+    after_profile f = of_named_values files d.values (λ _. after_named f)
 
     abbrev after_distilled_program : List ℕ → Answer
     after_distilled_program p = of_profile files d.profile after_profile
@@ -321,18 +373,21 @@ module _ (store : Reads) (out : Puts) (files : Files) (told : store.told ≡ Som
     undistilled : (a : Answer) → Undistilled store d a → Is a (distill_answer files d)
     undistilled a (inl h) = no_program d.program after_distilled_program a h
     undistilled a (inr (inl (p, h, n))) = is_also a (after_distilled_program p) (distill_answer files d) (sym (program d.program p after_distilled_program h)) (no_profile d.profile after_profile a n)
-    undistilled a (inr (inr m)) = inr m
+    undistilled a (inr (inr (inl (p, f, h, hf, n)))) =
+        is_also a (after_profile f) (distill_answer files d) (sym (program d.program p after_distilled_program h ∙ profile d.profile f after_profile hf)) (no_named_values d.values (λ _. after_named f) a n)
+    undistilled a (inr (inr (inr m))) = inr m
 
-    distilled : (left : Option Files) (p : List ℕ) (f : Profiled) (a : Answer) → Distills d (program_of p) f store left a → Is a (after_profile f)
-    distilled left p f a (inl (none, refusal_is, same)) =
+    distilled : (left : Option Files) (p : List ℕ) (f : Profiled) (same : List (ℕ × ℕ)) (a : Answer) → Distills d (program_of p) f same store left a → Is a (after_named f)
+    distilled left p f same a (inl (none, refusal_is, stays)) =
         inl (refusal_is ∙ sym (cond-true (nat_eq (length (analysed f.rows)) 0) (Refused refused.Empty) Done (ap (λ (pcs : List ℕ). nat_eq (length pcs) 0) none)))
-    distilled left p f a (inr (some, s)) =
-        is_also a Done (after_profile f) (sym (cond-false (nat_eq (length (analysed f.rows)) 0) (Refused refused.Empty) Done (some_tested (analysed f.rows) some))) (saved left d.output _ a s)
+    distilled left p f same a (inr (some, s)) =
+        is_also a Done (after_named f) (sym (cond-false (nat_eq (length (analysed f.rows)) 0) (Refused refused.Empty) Done (some_tested (analysed f.rows) some))) (saved left d.output _ a s)
 
     distill_complete : (left : Option Files) (a : Answer) → DistillCause store left d a → Is a (distill_answer files d)
     distill_complete left a (inl (h, same)) = undistilled a h
-    distill_complete left a (inr (p, f, hp, hf, s)) =
-        is_also a (after_profile f) (distill_answer files d) (sym (program d.program p after_distilled_program hp ∙ profile d.profile f after_profile hf)) (distilled left p f a s)
+    distill_complete left a (inr (p, f, same, hp, hf, hs, s)) =
+        is_also a (after_named f) (distill_answer files d)
+        (sym (program d.program p after_distilled_program hp ∙ profile d.profile f after_profile hf ∙ named_values d.values same (λ _. after_named f) hs)) (distilled left p f same a s)
 
   -- ---- `check`
 
@@ -454,6 +509,7 @@ module _ (store : Reads) (out : Puts) (files : Files) (told : store.told ≡ Som
   complete left (Some (Show name)) a h = show_complete name a h.0
   complete left (Some (Replay r)) a h = replay_complete r a h.0
   complete left (Some (Profile w calls)) a h = profile_complete w calls left a h.0
+  complete left (Some (Values w)) a h = values_complete w left a h.0
   complete left (Some (Distill d)) a h = distill_complete d left a h.0
   complete left (Some (Check w)) a h = check_complete w a h.0
   complete left (Some (Certify program image)) a h = certify_complete program image a h.0

@@ -5,19 +5,18 @@ use Rattle.std.proofs.lemmas.Bool.{or_cases, leb-true}
 use Rattle.outside.specs.Files.{Files}
 use Rattle.cells.specs.declared.End.{End}
 use Rattle.cells.specs.Run.{State, is_over, is_end, iterate}
-use Rattle.rv_run.specs.Calls.{step}
-use Rattle.speculation.specs.declared.Event.{Event}
+use Rattle.rv_semantics.specs.Calls.{step}
+use Rattle.speculation.specs.Engine.{Model}
 use Rattle.dist_image.specs.Image.{Distilled}
-use Rattle.image_world.specs.World.{world}
-use Rattle.schedules.specs.Schedule.{after}
-use Rattle.schedules.specs.Laws.{StopsAt}
+use Rattle.image_semantics.specs.World.{world}
+use Rattle.speculation_schedules.specs.Laws.{StopsAt}
 use Rattle.command_line.specs.Command.{RunCommand}
 use Rattle.answers.specs.declared.answer.Answer.{Answer}
 use Rattle.answers.specs.declared.answer.Answer.TheVariants.{Usage, Absent, StoreFault, SinkFault, Memory, TooLong, Refused, Done, Ran, Budget, Broken}
-use Rattle.mssp_tool.specs.Told.{Reads, Puts, Got}
-use Rattle.mssp_tool.specs.Driven.{state_after, stopped_at, stands}
-use Rattle.mssp_tool.specs.Speculated.{schedule_of, events_of, IsStop}
-use Rattle.mssp_tool.specs.Run.{Unready, AreRunFiles, RunFrom, RunCause, Completes, RunsAsAlone, start_from, world_from}
+use Rattle.speculative_runs.specs.Told.{Reads, Puts, Got}
+use Rattle.speculative_runs.specs.Driven.{state_after, stopped_at, stands}
+use Rattle.speculative_runs.specs.Speculated.{IsStop}
+use Rattle.mssp_tool.specs.Run.{Unready, AreRunFiles, RunFrom, RunCause, Completes, RunsAsAlone, start_from, world_from, models_from}
 
 -- a run that goes on is told by its budget
 goes_on : (pc : ℕ) (o : Option End) → is_end o ≡ false → stopped_at pc o ≡ Budget
@@ -33,34 +32,34 @@ still_goes : (at : ℕ) (o : Option End) → Budget ≡ stopped_at at o → is_e
 still_goes at None e = refl
 still_goes at (Some x) e = absurd (cc)
 
-module _ (start : State) (image : Distilled) (slaves : ℕ) (event : ℕ → Event) (budget k : ℕ) where
+module _ (start : State) (image : Distilled) (slaves : ℕ) (models : ℕ → Model) (budget k : ℕ) where
   abbrev there : State
-  there = (after (world start image slaves) event k).committed
+  there = (models k).committed
 
   -- where it has ended it stands there after all steps
-  all_steps : StopsAt (world start image slaves) event budget k → is_over there ≡ true → there ≡ state_after budget start
+  all_steps : StopsAt (world start image slaves) models budget k → is_over there ≡ true → there ≡ state_after budget start
   unfolding state_after
   all_steps s over = s.ended over
 
-  goes_past : StopsAt (world start image slaves) event budget k → is_over there ≡ false → is_over (state_after budget start) ≡ false
+  goes_past : StopsAt (world start image slaves) models budget k → is_over there ≡ false → is_over (state_after budget start) ≡ false
   unfolding state_after
   goes_past s going = s.went_on going
 
-  pub stands_so : StopsAt (world start image slaves) event budget k → stands there ≡ stands (state_after budget start)
+  pub stands_so : StopsAt (world start image slaves) models budget k → stands there ≡ stands (state_after budget start)
   stands_so s = go (is_over there) refl
     where
       go : (b : Bool) → is_over there ≡ b → stands there ≡ stands (state_after budget start)
       go true over = ap stands (all_steps s over)
       go false going = goes_on there.arch.pc there.env.over going ∙ sym (goes_on (state_after budget start).arch.pc (state_after budget start).env.over (goes_past s going))
 
-  module _ (name : List ℕ) (store : Reads) (left : Option Files) (out : Puts) (stop : IsStop (world start image slaves) event budget k) where
+  module _ (name : List ℕ) (store : Reads) (left : Option Files) (out : Puts) (stop : IsStop (world start image slaves) models budget k) where
     -- exactly its output
     exactly : (pc : ℕ) (end : End) → Ran pc end ≡ stands there → Got out there.env.output → Got out (state_after budget start).env.output
     exactly pc end is got = subst (λ (s : State). Got out s.env.output) (all_steps stop.sequential (has_ended pc there.arch.pc there.env.over end is)) got
 
     past : Budget ≡ stands there → Got out there.env.output → (q : ℕ) × (budget ≤ q) × (q < budget + 16384) × Got out (iterate step start q).env.output
     past is got =
-        let m = after (world start image slaves) event k in
+        let m = models k in
         let far : budget ≤ m.position = ⊎_elim (λ (x : is_over m.committed ≡ true). absurd (true≢false (sym x ∙ still_goes there.arch.pc there.env.over is))) (λ (x : nat_le budget m.position ≡ true). leb-true budget m.position x)
         (or_cases (is_over m.committed) (nat_le budget m.position) stop.first.there) in
         (m.position, far, stop.near, subst (λ (s : State). Got out s.env.output) stop.sequential.is_seq got)
@@ -97,24 +96,22 @@ module _ (store : Reads) (left : Option Files) (r : RunCommand) (out : Puts) whe
     unfolding state_after
     after_steps got = (r.budget, omega arith, omega arith, got)
 
-    runs : (report : Option (List ℕ)) (a : Answer) → RunFrom report r (world_from p i im r.slaves) store left out a → Completes a → RunsAsAlone store.told r out a
-    runs None (Ran pc end) ((got, is), same) done = ran_exactly pc end is got
-    runs None Budget ((got, is), same) done = used_up is (after_steps got)
-    runs (Some name) (Ran pc end) (k, stop, (got, wrote, is)) done =
-        let event = events_of (schedule_of r.image) r.slaves in
-        ran_exactly pc end (is ∙ stands_so start im r.slaves event r.budget k stop.sequential) (exactly start im r.slaves event r.budget k name store left out stop pc end is got)
-    runs (Some name) Budget (k, stop, (got, wrote, is)) done =
-        let event = events_of (schedule_of r.image) r.slaves in
-        used_up (is ∙ stands_so start im r.slaves event r.budget k stop.sequential) (past start im r.slaves event r.budget k name store left out stop is got)
-    runs report Usage h done = absurd done
-    runs report Broken h done = absurd done
-    runs report (Absent s) h done = absurd done
-    runs report (StoreFault s) h done = absurd done
-    runs report SinkFault h done = absurd done
-    runs report Memory h done = absurd done
-    runs report (TooLong s) h done = absurd done
-    runs report (Refused e) h done = absurd done
-    runs report Done h done = absurd done
+    runs : (report : Option (List ℕ)) (models : ℕ → Model) (a : Answer) → RunFrom report r (world_from p i im r.slaves) models store left out a → Completes a → RunsAsAlone store.told r out a
+    runs None models (Ran pc end) ((got, is), same) done = ran_exactly pc end is got
+    runs None models Budget ((got, is), same) done = used_up is (after_steps got)
+    runs (Some name) models (Ran pc end) (k, stop, (got, wrote, is)) done =
+        ran_exactly pc end (is ∙ stands_so start im r.slaves models r.budget k stop.sequential) (exactly start im r.slaves models r.budget k name store left out stop pc end is got)
+    runs (Some name) models Budget (k, stop, (got, wrote, is)) done =
+        used_up (is ∙ stands_so start im r.slaves models r.budget k stop.sequential) (past start im r.slaves models r.budget k name store left out stop is got)
+    runs report models Usage h done = absurd done
+    runs report models Broken h done = absurd done
+    runs report models (Absent s) h done = absurd done
+    runs report models (StoreFault s) h done = absurd done
+    runs report models SinkFault h done = absurd done
+    runs report models Memory h done = absurd done
+    runs report models (TooLong s) h done = absurd done
+    runs report models (Refused e) h done = absurd done
+    runs report models Done h done = absurd done
 
   pub runs_as_alone : (a : Answer) → RunCause store left r out a → Completes a → RunsAsAlone store.told r out a
   runs_as_alone (Ran pc end) (inl h) done = absurd (unready_ran pc end h.0)
@@ -128,4 +125,4 @@ module _ (store : Reads) (left : Option Files) (r : RunCommand) (out : Puts) whe
   runs_as_alone (TooLong s) (inl h) done = absurd done
   runs_as_alone (Refused e) (inl h) done = absurd done
   runs_as_alone Done (inl h) done = absurd done
-  runs_as_alone a (inr (p, i, im, fs, h)) done = runs p i im fs r.report a h done
+  runs_as_alone a (inr (p, i, im, fs, h)) done = runs p i im fs r.report (models_from r (start_from p i) im) a h done

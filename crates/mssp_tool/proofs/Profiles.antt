@@ -43,14 +43,14 @@ module _ (w : WalkCommand) (calls : Bool) (told : Option Files) (program : Execu
   of_files : (f : Profiled) → IsProfileOf (with_mark calls) begin (steps begin w.budget) f → IsProfileOf (with_mark calls) (start_of (program_of has.0.0) i) (steps (start_of (program_of has.0.0) i) w.budget) f
   of_files f h = subst (λ (x : Executable). IsProfileOf (with_mark calls) (start_of x i) (steps (start_of x i) w.budget) f) has.0.2 h
 
-  pub written_cause : (told' left : Option Files) (before mid now : ℕ) (f : Profiled) (a : Answer) → told' ≡ told → before ≤ mid → IsProfileOf (with_mark calls) begin (steps begin w.budget) f → (IsWide f.rows → ⊥)
-      → Saved (record { told = told'; before = mid; now = now }) left w.other (bytes_of f) a → ProfileCause (record { told = told; before = before; now = now }) left w calls a
-  written_cause told' left before mid now f a same l h narrow s =
-      inr (has.0.0, i, f, has.0.1, has.1, of_files f h, inr (narrow, saved_within told told' left before mid now w.other (bytes_of f) a same l s))
+  pub written_cause : (told' left : Option Files) (before mid now : ℕ) (last : Option (List ℕ)) (f : Profiled) (a : Answer) → told' ≡ told → before ≤ mid → IsProfileOf (with_mark calls) begin (steps begin w.budget) f → (IsWide f.rows → ⊥)
+      → Saved (record { told = told'; before = mid; now = now; failed = last }) left w.other (bytes_of f) a → ProfileCause (record { told = told; before = before; now = now; failed = last }) left w calls a
+  written_cause told' left before mid now last f a same l h narrow s =
+      inr (has.0.0, i, f, has.0.1, has.1, of_files f h, inr (narrow, saved_within told told' left before mid now last w.other (bytes_of f) a same l s))
 
-  pub wide_cause : (left : Option Files) (before now : ℕ) → left ≡ told → ((f : Profiled) → IsProfileOf (with_mark calls) begin (steps begin w.budget) f → IsWide f.rows)
-      → ProfileCause (record { told = told; before = before; now = now }) left w calls (Refused Wide)
-  wide_cause left before now same h =
+  pub wide_cause : (left : Option Files) (before now : ℕ) (last : Option (List ℕ)) → left ≡ told → ((f : Profiled) → IsProfileOf (with_mark calls) begin (steps begin w.budget) f → IsWide f.rows)
+      → ProfileCause (record { told = told; before = before; now = now; failed = last }) left w calls (Refused Wide)
+  wide_cause left before now last same h =
       let f = profile_of (with_mark calls) begin (steps begin w.budget) in
       let is = tally_is_profile (with_mark calls) begin (steps begin w.budget) in
       inr (has.0.0, i, f, has.0.1, has.1, of_files f is, inl (h f is, refl, same))

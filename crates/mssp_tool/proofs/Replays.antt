@@ -8,20 +8,18 @@ use Rattle.speculation.specs.World.{World}
 use Rattle.speculation.specs.Engine.{fresh}
 use Rattle.speculation.proofs.Keeps.{fresh_holds, run_keeps}
 use Rattle.dist_image.specs.Image.{Distilled, IsImage}
-use Rattle.image_world.specs.World.{world}
-use Rattle.image_world.proofs.Known.{known}
+use Rattle.image_semantics.specs.World.{world}
+use Rattle.image_semantics.proofs.Known.{known}
 use Rattle.event_list.specs.Reading.{written_out}
 use Rattle.report.specs.Puts.{PutsText}
 use Rattle.command_line.specs.Command.{ReplayCommand}
 use Rattle.answers.specs.declared.answer.Answer.{Answer}
 use Rattle.answers.specs.declared.answer.Answer.TheVariants.{SinkFault, Memory, Done}
-use Rattle.mssp_tool.specs.Told.{Reads, Delivered}
+use Rattle.speculative_runs.specs.Told.{Reads, Delivered}
 use Rattle.mssp_tool.specs.Run.{start_from}
-use Rattle.mssp_tool.specs.Replay.{replay_bytes, IsOfTheRun, IsReady, ReplayCause}
-
--- what is committed is the sequential run
-pub of_the_run : (start : State) (image : Distilled) (slaves : ℕ) (es : List Event) → IsImage image → 0 < slaves → IsOfTheRun start (world start image slaves) es
-of_the_run start image slaves es ok some = let w = world start image slaves in (run_keeps w (known start image slaves ok some) es (fresh w) (fresh_holds w)).is_seq
+use Rattle.speculative_runs.specs.Replayed.{replay_bytes}
+use Rattle.speculative_runs.proofs.Replayed.{of_the_run}
+use Rattle.mssp_tool.specs.Replay.{IsReady, ReplayCause}
 
 -- the answer that tells what a put came to
 abbrev pub answer_to : Result Unit SinkErr → Answer

@@ -12,83 +12,19 @@ use Rattle.cells.specs.declared.End.{End}
 use Rattle.cells.specs.Run.{State}
 use Rattle.command_line.specs.Command.{RunCommand}
 use Rattle.dist_image.specs.Image.{Distilled}
-use Rattle.image_world.specs.World.{world}
+use Rattle.image_semantics.specs.World.{world}
 use Rattle.speculation.specs.World.{World}
 use Rattle.speculation.specs.Engine.{Model}
-use Rattle.schedules.specs.Schedule.{after}
-use Rattle.mssp_tool.specs.declared.speculating.Schedule.{Schedule}
+use Rattle.speculation_schedules.specs.Schedule.{after}
+use Rattle.speculative_runs.specs.declared.speculating.Schedule.{Schedule}
 use Rattle.report.specs.Events.{summary_text}
 use Rattle.report.proofs.Gained.{part_before}
 use Rattle.answers.specs.declared.answer.Answer.{Answer}
 use Rattle.answers.specs.declared.answer.Answer.TheVariants.{Usage, Absent, StoreFault, SinkFault, Memory, TooLong, Refused, Done, Ran, Budget, Broken}
-use Rattle.mssp_tool.specs.Told.{Reads, Puts, Got, OnlyChanges, Written}
-use Rattle.mssp_tool.specs.Driven.{stopped_at, stands, CutOff}
-use Rattle.mssp_tool.specs.Speculated.{schedule_of, events_of, IsStop, Unwritten, Stopped, Speculated}
-use Rattle.mssp_tool.specs.Run.{AreRunFiles, Reported, RunFrom, RunCause, start_from, world_from}
-
--- all was put, and no report was written
-pub unwritten : (m : Model) (name : List ℕ) (store : Reads) (left : Option Files) (out : Puts) (a : Answer) → Got out m.committed.env.output → Unwritten store left name a
-    → Stopped m name store left out a
-unwritten m name store left out (StoreFault s) got h = (got, h)
-unwritten m name store left out Memory got h =
-    (part_before out.told out.left m.committed.env.output [] m.committed.env.output (sym (append-nil m.committed.env.output)) got, h)
-unwritten m name store left out Usage got h = absurd h
-unwritten m name store left out Broken got h = absurd h
-unwritten m name store left out (Absent s) got h = absurd h
-unwritten m name store left out SinkFault got h = absurd h
-unwritten m name store left out (TooLong s) got h = absurd h
-unwritten m name store left out (Refused e) got h = absurd h
-unwritten m name store left out Done got h = absurd h
-unwritten m name store left out (Ran pc end) got h = absurd h
-unwritten m name store left out Budget got h = absurd h
-
-pub unwritten_run : (w : World) (s t : Schedule) (slaves budget : ℕ) (m : Model) (name : List ℕ) (store : Reads) (left : Option Files) (out : Puts) (a : Answer) → s ≡ t
-    → (k : ℕ) × IsStop w (events_of s slaves) budget k × (m ≡ after w (events_of s slaves) k) × Got out (after w (events_of s slaves) k).committed.env.output
-    → Unwritten store left name a → Speculated w (events_of t slaves) budget name store left out a
-unwritten_run w s t slaves budget m name store left out a same (k, stop, is, got) h =
-    subst (λ (x : Schedule). Speculated w (events_of x slaves) budget name store left out a) same (k, stop, unwritten (after w (events_of s slaves) k) name store left out a got h)
-
--- it was cut off before
-cut : (m : Model) (name : List ℕ) (store : Reads) (left : Option Files) (out : Puts) (a : Answer) → CutOff out m.committed.env.output a → left ≡ store.told → Stopped m name store left out a
-cut m name store left out SinkFault h same = (h, same)
-cut m name store left out Memory h same = (h, same)
-cut m name store left out (StoreFault s) h same = absurd h
-cut m name store left out Usage h same = absurd h
-cut m name store left out Broken h same = absurd h
-cut m name store left out (Absent s) h same = absurd h
-cut m name store left out (TooLong s) h same = absurd h
-cut m name store left out (Refused e) h same = absurd h
-cut m name store left out Done h same = absurd h
-cut m name store left out (Ran pc end) h same = absurd h
-cut m name store left out Budget h same = absurd h
-
-pub cut_run : (w : World) (s t : Schedule) (slaves budget : ℕ) (name : List ℕ) (store : Reads) (left : Option Files) (out : Puts) (a : Answer) → s ≡ t
-    → (k : ℕ) × IsStop w (events_of s slaves) budget k × CutOff out (after w (events_of s slaves) k).committed.env.output a
-    → left ≡ store.told → Speculated w (events_of t slaves) budget name store left out a
-cut_run w s t slaves budget name store left out a same (k, stop, h) stays =
-    subst (λ (x : Schedule). Speculated w (events_of x slaves) budget name store left out a) same (k, stop, cut (after w (events_of s slaves) k) name store left out a h stays)
-
--- it completed
-completed : (m : Model) (name : List ℕ) (store : Reads) (left : Option Files) (out : Puts) → Got out m.committed.env.output → Written store.told left name (summary_text m)
-    → Stopped m name store left out (stands m.committed)
-completed m name store left out got wrote = by m.committed.env.over refl
-  where
-    by : (o : Option End) → m.committed.env.over ≡ o → Stopped m name store left out (stands m.committed)
-    by None e =
-        let is : stands m.committed ≡ Budget = ap (stopped_at m.committed.arch.pc) e in
-        subst (Stopped m name store left out) (sym is) (got, wrote, sym is)
-    by (Some end) e =
-        let is : stands m.committed ≡ Ran m.committed.arch.pc end = ap (stopped_at m.committed.arch.pc) e in
-        subst (Stopped m name store left out) (sym is) (got, wrote, sym is)
-
-pub completed_run : (w : World) (s t : Schedule) (slaves budget : ℕ) (m : Model) (name : List ℕ) (store : Reads) (left : Option Files) (out : Puts) (a : Answer) → s ≡ t
-    → (k : ℕ) × IsStop w (events_of s slaves) budget k × (m ≡ after w (events_of s slaves) k) × Got out (after w (events_of s slaves) k).committed.env.output
-    → Written store.told left name (summary_text m) → a ≡ stands m.committed → Speculated w (events_of t slaves) budget name store left out a
-completed_run w s t slaves budget m name store left out a same (k, stop, is, got) wrote stood_so =
-    let event = events_of s slaves in
-    let whole = completed (after w event k) name store left out got (subst (λ (x : Model). Written store.told left name (summary_text x)) is wrote) in
-    subst (λ (x : Schedule). Speculated w (events_of x slaves) budget name store left out a) same
-    (k, stop, subst (Stopped (after w event k) name store left out) (sym (stood_so ∙ ap (λ (x : Model). stands x.committed) is)) whole)
+use Rattle.speculative_runs.specs.Told.{Reads, Puts, Got, OnlyChanges, Written}
+use Rattle.speculative_runs.specs.Driven.{stopped_at, stands, CutOff}
+use Rattle.speculative_runs.specs.Speculated.{schedule_of, events_of, IsStop, Unwritten, Stopped, Speculated}
+use Rattle.mssp_tool.specs.Run.{AreRunFiles, Reported, RunFrom, RunCause, start_from, world_from, models_from}
 
 -- ---- the files that stay
 
@@ -134,38 +70,38 @@ stopped_changes m name store left out Done h = same_stay store.told left name h.
 -- ---- a run behind what it read
 
 -- a count that rose in a part of a call rose in the call
-within_call : (m : Model) (name : List ℕ) (told left : Option Files) (before mid now : ℕ) (out : Puts) (a : Answer) → before ≤ mid
-    → Stopped m name (record { told = told; before = mid; now = now }) left out a → Stopped m name (record { told = told; before = before; now = now }) left out a
-within_call m name told left before mid now out (StoreFault s) l (got, (same, rose, others)) = (got, (same, omega (arith, l, rose), others))
-within_call m name told left before mid now out (Ran pc end) l h = h
-within_call m name told left before mid now out Budget l h = h
-within_call m name told left before mid now out SinkFault l h = h
-within_call m name told left before mid now out Memory l h = h
-within_call m name told left before mid now out Usage l h = h
-within_call m name told left before mid now out Broken l h = h
-within_call m name told left before mid now out (Absent s) l h = h
-within_call m name told left before mid now out (TooLong s) l h = h
-within_call m name told left before mid now out (Refused e) l h = h
-within_call m name told left before mid now out Done l h = h
+within_call : (m : Model) (name : List ℕ) (told left : Option Files) (before mid now : ℕ) (last : Option (List ℕ)) (out : Puts) (a : Answer) → before ≤ mid
+    → Stopped m name (record { told = told; before = mid; now = now; failed = last }) left out a → Stopped m name (record { told = told; before = before; now = now; failed = last }) left out a
+within_call m name told left before mid now last out (StoreFault s) l (got, (same, rose, others)) = (got, (same, (omega (arith, l, rose.0), rose.1), others))
+within_call m name told left before mid now last out (Ran pc end) l h = h
+within_call m name told left before mid now last out Budget l h = h
+within_call m name told left before mid now last out SinkFault l h = h
+within_call m name told left before mid now last out Memory l h = h
+within_call m name told left before mid now last out Usage l h = h
+within_call m name told left before mid now last out Broken l h = h
+within_call m name told left before mid now last out (Absent s) l h = h
+within_call m name told left before mid now last out (TooLong s) l h = h
+within_call m name told left before mid now last out (Refused e) l h = h
+within_call m name told left before mid now last out Done l h = h
 
 -- the machine runs in the world of its engine
 pub engine_runs : (r : RunCommand) (name : List ℕ) (s t : State) (im jm : Distilled) (slaves : ℕ) (store : Reads) (left : Option Files) (out : Puts) (a : Answer)
-    → s ≡ t → im ≡ jm → slaves ≡ r.slaves → Speculated (world s im slaves) (events_of (schedule_of r.image) slaves) r.budget name store left out a → Reported t jm r name store left out a
+    → s ≡ t → im ≡ jm → slaves ≡ r.slaves → Speculated (world s im slaves) (after (world s im slaves) (events_of (schedule_of r.image) slaves)) r.budget name store left out a → Reported t jm r name store left out a
 engine_runs r name s t im jm slaves store left out a same_start same_image same_slaves h =
-    inr (subst (λ (x : State × Distilled × ℕ). Speculated (world x.0 x.1 x.2) (events_of (schedule_of r.image) x.2) r.budget name store left out a) (λ i. (same_start i, same_image i, same_slaves i)) h)
+    inr (subst (λ (x : State × Distilled × ℕ). Speculated (world x.0 x.1 x.2) (after (world x.0 x.1 x.2) (events_of (schedule_of r.image) x.2)) r.budget name store left out a) (λ i. (same_start i, same_image i, same_slaves i)) h)
 
-module _ (r : RunCommand) (name : List ℕ) (jm : Distilled) (told told' left : Option Files) (before mid now : ℕ) (out : Puts) (a : Answer) (named : r.report ≡ Some name)
+module _ (r : RunCommand) (name : List ℕ) (jm : Distilled) (told told' left : Option Files) (before mid now : ℕ) (last : Option (List ℕ)) (out : Puts) (a : Answer) (named : r.report ≡ Some name)
     (same_files : told' ≡ told) (l : before ≤ mid) where
   -- the store is as it was told at first
-  first_told : (t : State) → Speculated (world t jm r.slaves) (events_of (schedule_of r.image) r.slaves) r.budget name (record { told = told'; before = mid; now = now }) left out a
-      → Speculated (world t jm r.slaves) (events_of (schedule_of r.image) r.slaves) r.budget name (record { told = told; before = before; now = now }) left out a
+  first_told : (t : State) → Speculated (world t jm r.slaves) (models_from r t jm) r.budget name (record { told = told'; before = mid; now = now; failed = last }) left out a
+      → Speculated (world t jm r.slaves) (models_from r t jm) r.budget name (record { told = told; before = before; now = now; failed = last }) left out a
   first_told t h =
-      let here : Speculated (world t jm r.slaves) (events_of (schedule_of r.image) r.slaves) r.budget name (record { told = told; before = mid; now = now }) left out a =
-      subst (λ (d : Option Files). Speculated (world t jm r.slaves) (events_of (schedule_of r.image) r.slaves) r.budget name (record { told = d; before = mid; now = now }) left out a) same_files h in
-      (here.0, here.1, within_call (after (world t jm r.slaves) (events_of (schedule_of r.image) r.slaves) here.0) name told left before mid now out a l here.2)
+      let here : Speculated (world t jm r.slaves) (models_from r t jm) r.budget name (record { told = told; before = mid; now = now; failed = last }) left out a =
+      subst (λ (d : Option Files). Speculated (world t jm r.slaves) (models_from r t jm) r.budget name (record { told = d; before = mid; now = now; failed = last }) left out a) same_files h in
+      (here.0, here.1, within_call (models_from r t jm here.0) name told left before mid now last out a l here.2)
 
-  pub reported_cause : {s : State} (p i : List ℕ) → s ≡ start_from p i → AreRunFiles told r p jm i → Reported s jm r name (record { told = told'; before = mid; now = now }) left out a
-      → RunCause (record { told = told; before = before; now = now }) left r out a
+  pub reported_cause : {s : State} (p i : List ℕ) → s ≡ start_from p i → AreRunFiles told r p jm i → Reported s jm r name (record { told = told'; before = mid; now = now; failed = last }) left out a
+      → RunCause (record { told = told; before = before; now = now; failed = last }) left r out a
   reported_cause p i is fs (inl (m, nothing, stays)) = inl (inr (inr (inr m)), nothing, stays ∙ same_files)
   reported_cause {s} p i is fs (inr h) =
       inr (
@@ -173,13 +109,13 @@ module _ (r : RunCommand) (name : List ℕ) (jm : Distilled) (told told' left : 
         i,
         jm,
         fs,
-        subst (λ (o : Option (List ℕ)). RunFrom o r (world_from p i jm r.slaves) (record { told = told; before = before; now = now }) left out a) (sym named)
-            (subst (λ (x : State). Speculated (world x jm r.slaves) (events_of (schedule_of r.image) r.slaves) r.budget name (record { told = told; before = before; now = now }) left out a) is (first_told s h)),
+        subst (λ (o : Option (List ℕ)). RunFrom o r (world_from p i jm r.slaves) (models_from r (start_from p i) jm) (record { told = told; before = before; now = now; failed = last }) left out a) (sym named)
+            (subst (λ (x : State). Speculated (world x jm r.slaves) (models_from r x jm) r.budget name (record { told = told; before = before; now = now; failed = last }) left out a) is (first_told s h)),
       )
 
-  pub reported_changes : {s : State} → Reported s jm r name (record { told = told'; before = mid; now = now }) left out a → OnlyChanges told left r.report
+  pub reported_changes : {s : State} → Reported s jm r name (record { told = told'; before = mid; now = now; failed = last }) left out a → OnlyChanges told left r.report
   reported_changes (inl (m, nothing, stays)) = unchanged told left r.report (stays ∙ same_files)
   reported_changes {s} (inr h) =
       let here = first_told s h in
       subst (λ (o : Option (List ℕ)). OnlyChanges told left o) (sym named)
-      (stopped_changes (after (world s jm r.slaves) (events_of (schedule_of r.image) r.slaves) here.0) name (record { told = told; before = before; now = now }) left out a here.2)
+      (stopped_changes (models_from r s jm here.0) name (record { told = told; before = before; now = now; failed = last }) left out a here.2)

@@ -6,7 +6,7 @@ use Rattle.cells.specs.declared.End.{End}
 use Rattle.cells.specs.Run.{State, is_over}
 use Rattle.command_line.specs.Command.{Run, Replay, RunCommand, ReplayCommand, shown, shown_run, shown_replay}
 use Rattle.command_line.specs.declared.commands.Command.{Command as ReadCommand}
-use Rattle.command_line.specs.declared.commands.Command.TheVariants.{Run as ReadRun, Show as ReadShow, Replay as ReadReplay, Profile as ReadProfile, Distill as ReadDistill, Check as ReadCheck, Certify as ReadCertify, Trial as ReadTrial}
+use Rattle.command_line.specs.declared.commands.Command.TheVariants.{Run as ReadRun, Show as ReadShow, Replay as ReadReplay, Profile as ReadProfile, Values as ReadValues, Distill as ReadDistill, Check as ReadCheck, Certify as ReadCertify, Trial as ReadTrial}
 use Rattle.speculation.specs.declared.Counts.{Counts}
 use Rattle.speculation.specs.declared.Effect.{Effect}
 use Rattle.speculation.specs.declared.Effect.TheVariants.{Idle}
@@ -20,22 +20,23 @@ use Rattle.speculation.proofs.Keeps.{fresh_holds, run_keeps}
 use Rattle.squash_laws.specs.Tracks.{IsSafe}
 use Rattle.squash_laws.proofs.Safe.{happens_safe, run_tracks, fresh_tracks}
 use Rattle.dist_image.specs.Image.{Distilled, IsImage}
-use Rattle.image_world.specs.World.{world}
+use Rattle.image_semantics.specs.World.{world}
 use Rattle.fitting_laws.specs.Setting.{setting}
 use Rattle.fitting_laws.proofs.Sets.{is_setting}
 use Rattle.nosquash.proofs.Clean.{clean}
-use Rattle.schedules.specs.Schedule.{after, alone}
+use Rattle.speculation_schedules.specs.Schedule.{after}
 use Rattle.event_list.specs.Reading.{written_out}
 use Rattle.answers.specs.declared.answer.Answer.{Answer}
 use Rattle.answers.specs.declared.answer.Answer.TheVariants.{Usage, Absent, StoreFault, SinkFault, Memory, TooLong, Refused, Done, Ran, Budget, Broken}
-use Rattle.mssp_tool.specs.Told.{Reads, Puts, Written}
-use Rattle.mssp_tool.specs.Speculated.{schedule_of, events_of}
-use Rattle.mssp_tool.specs.declared.speculating.Schedule.TheVariants.{Rounds}
+use Rattle.speculative_runs.specs.Told.{Reads, Puts, Written}
+use Rattle.speculative_runs.specs.Speculated.{schedule_of, events_of}
+use Rattle.speculative_runs.specs.declared.speculating.Schedule.TheVariants.{Rounds}
 use Rattle.mssp_tool.specs.Files.{IsNamedImage}
 use Rattle.report.specs.Events.{summary_text}
-use Rattle.mssp_tool.specs.Run.{RunFrom, RunCause, AreRunFiles, Completes, start_from, world_from}
+use Rattle.mssp_tool.specs.Run.{RunFrom, RunCause, AreRunFiles, Completes, start_from, world_from, models_from}
 use Rattle.mssp_tool.specs.Replay.{Wanting, ReplayCause}
-use Rattle.mssp_tool.specs.Unsquashed.{AreUnsquashed, ReplayIsUnsquashed, IsMetToTheEnd, ReportIsUnsquashed}
+use Rattle.speculative_runs.proofs.Unsquashed.{are_unsquashed, IsClean, alone_clean}
+use Rattle.mssp_tool.specs.Unsquashed.{ReplayIsUnsquashed, IsMetToTheEnd, ReportIsUnsquashed}
 use Rattle.mssp_tool.proofs.Exact.{unready_ran, unready_budget}
 
 -- ---- the number of slaves that a command has
@@ -45,6 +46,7 @@ some_run None r is = absurd (cc)
 some_run (Some (ReadShow image)) r is = absurd (cc)
 some_run (Some (ReadReplay x)) r is = absurd (cc)
 some_run (Some (ReadProfile x calls)) r is = absurd (cc)
+some_run (Some (ReadValues x)) r is = absurd (cc)
 some_run (Some (ReadDistill x)) r is = absurd (cc)
 some_run (Some (ReadCheck x)) r is = absurd (cc)
 some_run (Some (ReadCertify x y)) r is = absurd (cc)
@@ -56,6 +58,7 @@ some_replay None r is = absurd (cc)
 some_replay (Some (ReadShow image)) r is = absurd (cc)
 some_replay (Some (ReadRun x)) r is = absurd (cc)
 some_replay (Some (ReadProfile x calls)) r is = absurd (cc)
+some_replay (Some (ReadValues x)) r is = absurd (cc)
 some_replay (Some (ReadDistill x)) r is = absurd (cc)
 some_replay (Some (ReadCheck x)) r is = absurd (cc)
 some_replay (Some (ReadCertify x y)) r is = absurd (cc)
@@ -63,22 +66,6 @@ some_replay (Some (ReadTrial x)) r is = absurd (cc)
 some_replay (Some (ReadReplay x)) r is = let same : shown_replay x ≡ r = cc in subst (λ (y : ReplayCommand). 0 < y.slaves) same x.some
 
 -- ---- a replay
-
--- effect k is what an event did to the model before it
-effect_is : (w : World) (es : List Event) (m : Model) (k : ℕ) (effect : Effect) → slice_get (effects w es m) k ≡ Some effect → (e : Event) × ((happens w (run w (take k es) m) e).0 ≡ effect)
-effect_is w [] m k effect is = absurd (cc)
-effect_is w (e ∷ es) m zero effect is = (e, cc)
-effect_is w (e ∷ es) m (suc k) effect is = effect_is w es (happens w m e).1 k effect is
-
-pub are_unsquashed : (start : State) (image : Distilled) (slaves : ℕ) → IsImage image → 0 < slaves → (es : List Event) → AreUnsquashed start image (world start image slaves) es
-are_unsquashed start image slaves ok some es k effect is = λ fits n meets room.
-    let s = setting start image slaves n in
-    let w = world start image slaves in
-    let at = is_setting start image slaves ok n some fits meets in
-    let before = take k es in
-    let h = effect_is w es (fresh w) k effect is in
-    subst IsSafe h.1
-    (happens_safe s at (run w before (fresh w)) h.0 room (run_keeps w at.known before (fresh w) (fresh_holds w)) (run_tracks s at before (fresh w) (fresh_holds w) (fresh_tracks s at)))
 
 module _ (store : Reads) (r : ReplayCommand) (out : Puts) (some : 0 < r.slaves) where
   wanting_done : Wanting store r Done → ⊥
@@ -106,31 +93,6 @@ module _ (store : Reads) (r : ReplayCommand) (out : Puts) (some : 0 < r.slaves) 
 
 -- ---- the report of a run
 
-abbrev IsClean : Counts → Type 0
-IsClean c = (c.squashed ≡ 0) × (c.dropped ≡ 0)
-
--- a serial step squashes nothing
-step_clean : (w : World) (m : Model) → IsClean m.counts → IsClean (happens w m SerialEvent).1.counts
-unfolding happens
-step_clean w m h = go (is_over m.committed)
-  where
-    told : (o : Option End) → IsClean (counted_by SerialEvent (told_end o) m.counts)
-    told None = h
-    told (Some end) = h
-
-    by : (k : Mode) → IsClean (counted_by SerialEvent (serial_step w m k).0 m.counts)
-    by (Serial debt) = told (w.step m.committed).env.over
-    by Speculating = h
-
-    go : (b : Bool) → IsClean (counted SerialEvent m.counts (cond b (Idle, m) (going_on w m SerialEvent))).1.counts
-    go true = h
-    go false = by m.mode
-
-alone_clean : (w : World) (k : ℕ) → IsClean (after w alone k).counts
-unfolding after
-alone_clean w zero = (refl, refl)
-alone_clean w (suc k) = step_clean w (after w alone k) (alone_clean w k)
-
 module _ (store : Reads) (left : Option Files) (r : RunCommand) (name : List ℕ) (out : Puts) (some : 0 < r.slaves) where
   -- without an image it goes on by serial steps alone
   run_clean : (named : Option (List ℕ)) (image : Distilled) (start : State) (k : ℕ) → IsNamedImage store.told named image → IsMetToTheEnd named start image
@@ -139,19 +101,19 @@ module _ (store : Reads) (left : Option Files) (r : RunCommand) (name : List ℕ
   run_clean (Some file) image start k (bytes, h) (fits, (n, meets, ends)) = clean start image r.slaves n h.is_image some fits meets ends (events_of Rounds r.slaves) k
 
   module _ (p i : List ℕ) (image : Distilled) (files : AreRunFiles store.told r p image i) where
-    told : (k : ℕ) → Written store.told left name (summary_text (after (world_from p i image r.slaves) (events_of (schedule_of r.image) r.slaves) k)) → ReportIsUnsquashed store.told left r name
+    told : (k : ℕ) → Written store.told left name (summary_text (models_from r (start_from p i) image k)) → ReportIsUnsquashed store.told left r name
     told k written =
         record {
           p = p;
           i = i;
           image = image;
           files = files;
-          last = after (world_from p i image r.slaves) (events_of (schedule_of r.image) r.slaves) k;
+          last = models_from r (start_from p i) image k;
           written = written;
           unsquashed = run_clean r.image image (start_from p i) k files.has_image;
         }
 
-    reports : (a : Answer) → Completes a → RunFrom (Some name) r (world_from p i image r.slaves) store left out a → ReportIsUnsquashed store.told left r name
+    reports : (a : Answer) → Completes a → RunFrom (Some name) r (world_from p i image r.slaves) (models_from r (start_from p i) image) store left out a → ReportIsUnsquashed store.told left r name
     reports (Ran pc end) done (k, stop, (got, written, is)) = told k written
     reports Budget done (k, stop, (got, written, is)) = told k written
     reports Usage done h = absurd done
@@ -177,4 +139,4 @@ module _ (store : Reads) (left : Option Files) (r : RunCommand) (name : List ℕ
   report_is_unsquashed named (Refused e) done (inl h) = absurd done
   report_is_unsquashed named Done done (inl h) = absurd done
   report_is_unsquashed named a done (inr (p, i, image, files, h)) =
-      reports p i image files a done (subst (λ (o : Option (List ℕ)). RunFrom o r (world_from p i image r.slaves) store left out a) named h)
+      reports p i image files a done (subst (λ (o : Option (List ℕ)). RunFrom o r (world_from p i image r.slaves) (models_from r (start_from p i) image) store left out a) named h)

@@ -10,7 +10,7 @@ use Rattle.certify.specs.Answers.{IsAnswer}
 use Rattle.report.specs.Text.{hex_word, line}
 use Rattle.answers.specs.declared.answer.Answer.{Answer}
 use Rattle.answers.specs.declared.answer.Answer.TheVariants.{Done, Broken}
-use Rattle.mssp_tool.specs.Told.{Reads, Puts, GotNothing, Spoken}
+use Rattle.speculative_runs.specs.Told.{Reads, Puts, GotNothing, Spoken}
 use Rattle.mssp_tool.specs.Files.{IsProgramOf, NoProgram, of_program, HasImage, NoImage, of_image}
 
 -- the first file that is wanting or refused
@@ -22,6 +22,7 @@ abbrev pub fit_line : Fit → List ℕ
 fit_line Yes = line (codes "fits") []
 fit_line (No pc rule) = line (codes "unfit") (hex_word pc ∷ codes "rule" ∷ decimal rule ∷ [])
 
+-- the answer of `certify`, by what the rules say
 abbrev pub fit_answer : Fit → Answer
 fit_answer Yes = Done
 fit_answer (No pc rule) = Broken

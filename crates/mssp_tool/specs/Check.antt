@@ -7,7 +7,7 @@ use Rattle.dist_image.specs.Image.{Distilled}
 use Rattle.elf_reader.specs.Executable.{Executable}
 use Rattle.elf_reader.specs.Accepted.{program_of}
 use Rattle.profile_laws.specs.Profiles.{count_below, steps}
-use Rattle.assume_laws.specs.Looks.{first_from, first_failing, span_fails}
+use Rattle.assumption_laws.specs.Looks.{first_from, first_failing, span_fails}
 use Rattle.assume_list.specs.declared.verdict.Verdict.{Verdict}
 use Rattle.assume_list.specs.declared.verdict.Verdict.TheVariants as verdict
 use Rattle.assume_list.specs.Passes.{is_span}
@@ -15,7 +15,7 @@ use Rattle.assume_list.specs.Verdicts.{IsVerdict}
 use Rattle.report.specs.Verdict.{verdict_line}
 use Rattle.answers.specs.declared.answer.Answer.{Answer}
 use Rattle.answers.specs.declared.answer.Answer.TheVariants.{Memory, Done, Broken}
-use Rattle.mssp_tool.specs.Told.{Reads, Puts, GotNothing, Spoken}
+use Rattle.speculative_runs.specs.Told.{Reads, Puts, GotNothing, Spoken}
 use Rattle.mssp_tool.specs.Files.{IsProgramOf, NoProgram, of_program, HasImage, NoImage, of_image, IsInput, NoInput, of_input}
 use Rattle.mssp_tool.specs.Run.{start_from}
 

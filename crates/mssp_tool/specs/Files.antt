@@ -13,6 +13,9 @@ use Rattle.elf_reader.specs.Accepted.{program_of}
 use Rattle.speculation.specs.declared.Event.{Event}
 use Rattle.event_list.specs.declared.error.EventErr.{EventErr}
 use Rattle.event_list.specs.Reading.{list_in}
+use Rattle.load_values.specs.declared.error.ValuesErr.{ValuesErr}
+use Rattle.load_values.specs.Values.{AreValues}
+use Rattle.load_values.specs.Reading.{values_from}
 use Rattle.profile_data.specs.declared.error.ProfileErr.{ProfileErr}
 use Rattle.profile_data.specs.Profile.{Profiled, IsProfile}
 use Rattle.profile_data.specs.Reading.{profile_from}
@@ -22,20 +25,28 @@ use Rattle.answers.specs.declared.answer.Refusal.{Refusal}
 use Rattle.answers.specs.declared.answer.Refusal.TheVariants as refused
 use Rattle.answers.specs.declared.answer.Answer.{Answer}
 use Rattle.answers.specs.declared.answer.Answer.TheVariants.{Absent, StoreFault, Memory, TooLong, Refused, Done}
-use Rattle.mssp_tool.specs.Told.{Reads, Fails, Written}
+use Rattle.speculative_runs.specs.Told.{Reads, FailsAt, Written, NotWritten}
 
+-- the most bytes of a program
 abbrev pub program_limit : ℕ
 program_limit = 16777216
 
+-- the most bytes of an image
 abbrev pub image_limit : ℕ
 image_limit = 67108864
 
+-- the most bytes of a list of events
 abbrev pub events_limit : ℕ
 events_limit = 67108864
 
+-- the most bytes of a profile
 abbrev pub profile_limit : ℕ
 profile_limit = 33554432
 
+abbrev pub values_limit : ℕ
+values_limit = 8388608
+
+-- the most bytes of an input
 abbrev pub input_limit : ℕ
 input_limit = 67108864
 
@@ -45,9 +56,9 @@ IsReadFrom told name limit bytes = (files : Files) → told ≡ Some files → (
 
 -- why a file was not read
 abbrev pub NotRead : Reads → List ℕ → ℕ → Source → Answer → Type 0
-NotRead store name limit s (Absent t) = (t ≡ s) × (Lacks store.told name ⊎ Fails store)
-NotRead store name limit s (TooLong t) = (t ≡ s) × (HasLonger store.told name limit ⊎ Fails store)
-NotRead store name limit s (StoreFault t) = (t ≡ s) × Fails store
+NotRead store name limit s (Absent t) = (t ≡ s) × (Lacks store.told name ⊎ FailsAt store name)
+NotRead store name limit s (TooLong t) = (t ≡ s) × (HasLonger store.told name limit ⊎ FailsAt store name)
+NotRead store name limit s (StoreFault t) = (t ≡ s) × FailsAt store name
 NotRead store name limit s Memory = Unit {0}
 NotRead store name limit s _ = ⊥
 
@@ -74,6 +85,7 @@ pub record IsProgramOf (told : Option Files) (name p : List ℕ) : Type 0 where
   pub read : IsReadFrom told name program_limit p
   pub accepted : refusal p ≡ None
 
+-- the file of this name is this program
 abbrev pub HasProgram : Option Files → List ℕ → Executable → Type 0
 HasProgram told name program = (p : List ℕ) × IsProgramOf told name p × (program ≡ program_of p)
 
@@ -81,10 +93,12 @@ HasProgram told name program = (p : List ℕ) × IsProgramOf told name p × (pro
 abbrev pub NoProgram : Reads → List ℕ → Answer → Type 0
 NoProgram store name a = NotAccepted store name program_limit source.Program (λ p (e : ElfErr). refusal p ≡ Some e) refused.Program a
 
+-- the answer, unless the program is refused
 abbrev pub unless_refused : Option ElfErr → Answer → Answer
 unless_refused None a = a
 unless_refused (Some e) a = Refused (refused.Program e)
 
+-- the answer by what the program's file holds
 abbrev pub of_program : Files → List ℕ → (List ℕ → Answer) → Answer
 of_program files name k = of_file (finite.get files name) program_limit source.Program (λ p. unless_refused (refusal p) (k p))
 
@@ -96,6 +110,7 @@ pub record IsImageOf (told : Option Files) (name bytes : List ℕ) (image : Dist
   pub accepted : image_from bytes ≡ Ok image
   pub is_image : IsImage image
 
+-- the file of this name is this image
 abbrev pub HasImage : Option Files → List ℕ → Distilled → Type 0
 HasImage told name image = (bytes : List ℕ) × IsImageOf told name bytes image
 
@@ -103,6 +118,7 @@ HasImage told name image = (bytes : List ℕ) × IsImageOf told name bytes image
 abbrev pub NoImage : Reads → List ℕ → Answer → Type 0
 NoImage store name a = NotAccepted store name image_limit source.Image (λ bytes (e : ImageErr). image_from bytes ≡ Err e) refused.Image a
 
+-- the answer by what the image's file holds
 abbrev pub of_image : Files → List ℕ → (Distilled → Answer) → Answer
 of_image files name k = of_file (finite.get files name) image_limit source.Image (λ bytes. of_reading (image_from bytes) refused.Image k)
 
@@ -115,6 +131,7 @@ IsNamedImage told (Some name) image = HasImage told name image
 abbrev pub NoNamedImage : Reads → Option (List ℕ) → Answer → Type 0
 NoNamedImage store named a = (name : List ℕ) × (named ≡ Some name) × NoImage store name a
 
+-- the same where an image is named, else beside one that assumes nothing
 abbrev pub of_named_image : Files → Option (List ℕ) → (Distilled → Answer) → Answer
 of_named_image files None k = k nothing_known
 of_named_image files (Some name) k = of_image files name k
@@ -126,6 +143,7 @@ pub record IsListOf (told : Option Files) (name bytes : List ℕ) (list : List (
   pub read : IsReadFrom told name events_limit bytes
   pub accepted : list_in bytes ≡ Ok list
 
+-- the file of this name is this list of events
 abbrev pub HasEvents : Option Files → List ℕ → List (ℕ × Event) → Type 0
 HasEvents told name list = (bytes : List ℕ) × IsListOf told name bytes list
 
@@ -133,6 +151,7 @@ HasEvents told name list = (bytes : List ℕ) × IsListOf told name bytes list
 abbrev pub NoEvents : Reads → List ℕ → Answer → Type 0
 NoEvents store name a = NotAccepted store name events_limit source.Events (λ bytes (e : EventErr). list_in bytes ≡ Err e) refused.Events a
 
+-- the answer by what the list's file holds
 abbrev pub of_events : Files → List ℕ → (List (ℕ × Event) → Answer) → Answer
 of_events files name k = of_file (finite.get files name) events_limit source.Events (λ bytes. of_reading (list_in bytes) refused.Events k)
 
@@ -144,6 +163,7 @@ pub record IsProfileFile (told : Option Files) (name bytes : List ℕ) (f : Prof
   pub accepted : profile_from bytes ≡ Ok f
   pub is_profile : IsProfile f
 
+-- the file of this name is this profile
 abbrev pub HasProfile : Option Files → List ℕ → Profiled → Type 0
 HasProfile told name f = (bytes : List ℕ) × IsProfileFile told name bytes f
 
@@ -151,11 +171,44 @@ HasProfile told name f = (bytes : List ℕ) × IsProfileFile told name bytes f
 abbrev pub NoProfile : Reads → List ℕ → Answer → Type 0
 NoProfile store name a = NotAccepted store name profile_limit source.Profile (λ bytes (e : ProfileErr). profile_from bytes ≡ Err e) refused.Profile a
 
+-- the answer by what the profile's file holds
 abbrev pub of_profile : Files → List ℕ → (Profiled → Answer) → Answer
 of_profile files name k = of_file (finite.get files name) profile_limit source.Profile (λ bytes. of_reading (profile_from bytes) refused.Profile k)
 
+-- ---- the values of loads
+
+-- the store tells these bytes as the values of that name, and they are these
+pub record IsValuesFile (told : Option Files) (name bytes : List ℕ) (rows : List (ℕ × ℕ)) : Type 0 where
+  pub read : IsReadFrom told name values_limit bytes
+  pub accepted : values_from bytes ≡ Ok rows
+  pub are_values : AreValues rows
+
+abbrev pub HasValues : Option Files → List ℕ → List (ℕ × ℕ) → Type 0
+HasValues told name rows = (bytes : List ℕ) × IsValuesFile told name bytes rows
+
+-- the values are not read, or refused
+abbrev pub NoValues : Reads → List ℕ → Answer → Type 0
+NoValues store name a = NotAccepted store name values_limit source.Values (λ bytes (e : ValuesErr). values_from bytes ≡ Err e) refused.Values a
+
+abbrev pub of_values : Files → List ℕ → (List (ℕ × ℕ) → Answer) → Answer
+of_values files name k = of_file (finite.get files name) values_limit source.Values (λ bytes. of_reading (values_from bytes) refused.Values k)
+
+-- the values that are named, or none where no file is
+abbrev pub AreNamedValues : Option Files → Option (List ℕ) → List (ℕ × ℕ) → Type 0
+AreNamedValues told None rows = rows ≡ []
+AreNamedValues told (Some name) rows = HasValues told name rows
+
+-- values are named, and not read, or refused
+abbrev pub NoNamedValues : Reads → Option (List ℕ) → Answer → Type 0
+NoNamedValues store named a = (name : List ℕ) × (named ≡ Some name) × NoValues store name a
+
+abbrev pub of_named_values : Files → Option (List ℕ) → (List (ℕ × ℕ) → Answer) → Answer
+of_named_values files None k = k []
+of_named_values files (Some name) k = of_values files name k
+
 -- ---- the input, which is empty where none is named
 
+-- the input: that of the file where one is named, else nothing
 abbrev pub IsInput : Option Files → Option (List ℕ) → List ℕ → Type 0
 IsInput told None i = i ≡ []
 IsInput told (Some name) i = IsReadFrom told name input_limit i
@@ -164,17 +217,12 @@ IsInput told (Some name) i = IsReadFrom told name input_limit i
 abbrev pub NoInput : Reads → Option (List ℕ) → Answer → Type 0
 NoInput store named a = (name : List ℕ) × (named ≡ Some name) × NotRead store name input_limit source.Input a
 
+-- the answer by what the input is
 abbrev pub of_input : Files → Option (List ℕ) → (List ℕ → Answer) → Answer
 of_input files None k = k []
 of_input files (Some name) k = of_file (finite.get files name) input_limit source.Input k
 
 -- ---- the file that a command writes
-
--- it was not written: the store failed, and that name has anything or nothing; or there was no memory, and no file has changed
-abbrev pub NotWritten : Source → Reads → Option Files → List ℕ → Answer → Type 0
-NotWritten s store left name (StoreFault t) = (t ≡ s) × Fails store × OthersStay store.told left name
-NotWritten s store left name Memory = left ≡ store.told
-NotWritten s store left name _ = ⊥
 
 -- the command's bytes were written, and it is done; or they were not
 abbrev pub Saved : Reads → Option Files → List ℕ → List ℕ → Answer → Type 0

@@ -10,7 +10,7 @@ use Rattle.profile_laws.specs.Tally.{kept}
 use Rattle.answers.specs.declared.answer.Refusal.TheVariants.{Wide}
 use Rattle.answers.specs.declared.answer.Answer.{Answer}
 use Rattle.answers.specs.declared.answer.Answer.TheVariants.{Memory, Refused, Done}
-use Rattle.mssp_tool.specs.Told.{Reads}
+use Rattle.speculative_runs.specs.Told.{Reads}
 use Rattle.mssp_tool.specs.Files.{IsProgramOf, HasProgram, NoProgram, of_program, IsInput, NoInput, of_input, Saved}
 use Rattle.mssp_tool.specs.Run.{start_from}
 

@@ -1,41 +1,17 @@
 -- What `replay` comes to, and why.
-use Rattle.std.specs.Prelude.{◌≡◌, ℕ, ◌⊎◌, List, ◌++◌, Option}
-use Rattle.std.specs.List.{flat_map}
+use Rattle.std.specs.Prelude.{◌≡◌, ℕ, ◌⊎◌, List, Option}
 use Rattle.outside.specs.Files.{Files}
-use Rattle.cells.specs.Run.{State, iterate}
-use Rattle.rv_run.specs.Calls.{step}
 use Rattle.speculation.specs.declared.Event.{Event}
 use Rattle.speculation.specs.World.{World}
-use Rattle.speculation.specs.Engine.{Model, run, effects, fresh}
 use Rattle.dist_image.specs.Image.{Distilled, IsImage}
 use Rattle.event_list.specs.Reading.{written_out}
-use Rattle.report.specs.Events.{effect_line, summary_text}
 use Rattle.command_line.specs.Command.{ReplayCommand}
 use Rattle.answers.specs.declared.answer.Answer.{Answer}
 use Rattle.answers.specs.declared.answer.Answer.TheVariants.{Memory, Done}
-use Rattle.mssp_tool.specs.Told.{Reads, Puts, GotNothing, Delivered}
+use Rattle.speculative_runs.specs.Told.{Reads, Puts, GotNothing, Delivered}
+use Rattle.speculative_runs.specs.Replayed.{replay_bytes, IsOfTheRun}
 use Rattle.mssp_tool.specs.Files.{IsProgramOf, NoProgram, of_program, HasImage, NoImage, of_image, HasEvents, NoEvents, of_events, IsInput, NoInput, of_input}
 use Rattle.mssp_tool.specs.Run.{start_from, world_from}
-
--- ---- what is put
-
--- the lines of what events do, one after the other, from a model on
-abbrev pub lines_of : World → List Event → Model → List ℕ
-lines_of w es m = flat_map effect_line (effects w es m)
-
--- the lines of what all events do, the lines that sum it up, and the committed output
-abbrev pub replay_bytes : World → List Event → List ℕ
-replay_bytes w es =
-    let last = run w es (fresh w) in
-    lines_of w es (fresh w) ++ (summary_text last ++ last.committed.env.output)
-
--- what is summed up and committed last is the sequential run from this state, at the position that is told
-abbrev pub IsOfTheRun : State → World → List Event → Type 0
-IsOfTheRun start w es =
-    let last = run w es (fresh w) in
-    last.committed ≡ iterate step start last.position
-
--- ---- why
 
 -- what it comes to before its first event: the first file that is wanting or refused, or want of memory
 abbrev pub Wanting : Reads → ReplayCommand → Answer → Type 0

@@ -4,19 +4,21 @@ use Rattle.outside.specs.Files.{Files}
 use Rattle.command_line.specs.Command.{RunCommand}
 use Rattle.cells.specs.declared.End.{End}
 use Rattle.cells.specs.Run.{State, iterate}
-use Rattle.rv_run.specs.Calls.{step}
+use Rattle.rv_semantics.specs.Calls.{step}
 use Rattle.speculation.specs.World.{World}
+use Rattle.speculation.specs.Engine.{Model}
+use Rattle.speculation_schedules.specs.Schedule.{after}
 use Rattle.dist_image.specs.Image.{Distilled}
-use Rattle.image_world.specs.World.{world}
+use Rattle.image_semantics.specs.World.{world}
 use Rattle.elf_reader.specs.Accepted.{program_of}
 use Rattle.elf_reader.specs.Executable.{Executable}
 use Rattle.seq_machine.specs.Parts.{start_of}
 use Rattle.answers.specs.declared.answer.Answer.{Answer}
 use Rattle.answers.specs.declared.answer.Answer.TheVariants.{Memory, Ran, Budget}
-use Rattle.mssp_tool.specs.Told.{Reads, Puts, Got, GotNothing}
+use Rattle.speculative_runs.specs.Told.{Reads, Puts, Got, GotNothing}
 use Rattle.mssp_tool.specs.Files.{IsProgramOf, NoProgram, of_program, IsNamedImage, NoNamedImage, of_named_image, IsInput, NoInput, of_input}
-use Rattle.mssp_tool.specs.Driven.{Driven, state_after, stands}
-use Rattle.mssp_tool.specs.Speculated.{schedule_of, events_of, Speculated}
+use Rattle.speculative_runs.specs.Driven.{Driven, state_after, stands}
+use Rattle.speculative_runs.specs.Speculated.{schedule_of, events_of, Speculated}
 
 -- what it comes to before its first step: the first file that is wanting or refused, or want of memory
 abbrev pub Unready : Reads → RunCommand → Answer → Type 0
@@ -36,8 +38,13 @@ pub record AreRunFiles (told : Option Files) (r : RunCommand) (p : List ℕ) (im
 abbrev pub start_from : List ℕ → List ℕ → State
 start_from p i = start_of (program_of p) i
 
+-- the world of a program's bytes, an input and an image
 abbrev pub world_from : List ℕ → List ℕ → Distilled → ℕ → World
 world_from p i image slaves = world (start_from p i) image slaves
+
+-- the models of the machine of such a run, after each number of events: rounds where an image is named, and else serial steps alone
+abbrev pub models_from : RunCommand → State → Distilled → ℕ → Model
+models_from r start image = after (world start image r.slaves) (events_of (schedule_of r.image) r.slaves)
 
 -- a state is the start of the program's run, with the input that it holds
 abbrev pub Begins : Executable → State → Type 0
@@ -51,18 +58,19 @@ IsReady told r s image = (p : List ℕ) × (i : List ℕ) × AreRunFiles told r 
 abbrev pub Reported : State → Distilled → RunCommand → List ℕ → Reads → Option Files → Puts → Answer → Type 0
 Reported s image r name store left out a =
     ((a ≡ Memory) × GotNothing out × (left ≡ store.told))
-    ⊎ Speculated (world s image r.slaves) (events_of (schedule_of r.image) r.slaves) r.budget name store left out a
+    ⊎ Speculated (world s image r.slaves) (models_from r s image) r.budget name store left out a
 
--- what it comes to behind its files: its machine runs alone, and no file changes; or a report is asked for, and a speculative machine runs
-abbrev pub RunFrom : Option (List ℕ) → RunCommand → World → Reads → Option Files → Puts → Answer → Type 0
-RunFrom None r w store left out a = Driven w.start r.budget out a × (left ≡ store.told)
-RunFrom (Some name) r w store left out a = Speculated w (events_of (schedule_of r.image) r.slaves) r.budget name store left out a
+-- what it comes to behind its files: its machine runs alone, and no file changes; or a report is asked for, and a speculative machine runs, which has these
+-- models after each number of events
+abbrev pub RunFrom : Option (List ℕ) → RunCommand → World → (ℕ → Model) → Reads → Option Files → Puts → Answer → Type 0
+RunFrom None r w models store left out a = Driven w.start r.budget out a × (left ≡ store.told)
+RunFrom (Some name) r w models store left out a = Speculated w models r.budget name store left out a
 
 -- it came to this before its first step, and nothing was put and no file has changed; or its files are these, and their run came to this
 abbrev pub RunCause : Reads → Option Files → RunCommand → Puts → Answer → Type 0
 RunCause store left r out a =
     (Unready store r a × GotNothing out × (left ≡ store.told))
-    ⊎ ((p : List ℕ) × (i : List ℕ) × (image : Distilled) × AreRunFiles store.told r p image i × RunFrom r.report r (world_from p i image r.slaves) store left out a)
+    ⊎ ((p : List ℕ) × (i : List ℕ) × (image : Distilled) × AreRunFiles store.told r p image i × RunFrom r.report r (world_from p i image r.slaves) (models_from r (start_from p i) image) store left out a)
 
 -- a run completed, and the answer tells where it stands
 abbrev pub Completes : Answer → Type 0

@@ -5,7 +5,7 @@ use Rattle.dist_image.specs.Image.{Distilled}
 use Rattle.report.specs.Show.{image_text}
 use Rattle.answers.specs.declared.answer.Answer.{Answer}
 use Rattle.answers.specs.declared.answer.Answer.TheVariants.{Done}
-use Rattle.mssp_tool.specs.Told.{Reads, Puts, GotNothing, Delivered}
+use Rattle.speculative_runs.specs.Told.{Reads, Puts, GotNothing, Delivered}
 use Rattle.mssp_tool.specs.Files.{HasImage, NoImage, of_image}
 
 -- the image is wanting, and nothing was put; or it is this one, and its text was put or a part of it

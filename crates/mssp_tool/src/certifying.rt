@@ -1,7 +1,7 @@
 //! `certify`: whether an image fits a program.
 ghost use Rattle.std.specs.Prelude.{◌≡◌, IfOk, MatchResult};
 ghost use Rattle.dist_image.specs.Image.{IsImage};
-ghost use Rattle.mssp_tool.specs.Told.{Reads, Puts};
+ghost use Rattle.speculative_runs.specs.Told.{Reads, Puts};
 ghost use Rattle.mssp_tool.specs.Files.{HasProgram, HasImage};
 ghost use Rattle.mssp_tool.specs.Certify.{Uncertified, fit_line, fit_answer, Certified, CertifyCause};
 
@@ -33,7 +33,7 @@ fn subject_in<S: Store>(
         (λ subject. IsImage subject.image
         × HasProgram (S.told store.old) program.now subject.program
         × HasImage (S.told store.old) image.now subject.image)
-        (Uncertified (record { told = S.told store.old; before = S.faults store.old; now = S.faults store.new }) program.now image.now) }
+        (Uncertified (record { told = S.told store.old; before = S.faults store.old; now = S.faults store.new; failed = S.failed store.new }) program.now image.now) }
 {
     let program = program_in(alloc, store, program)?;
     match image_in(alloc, store, image) {
@@ -97,7 +97,7 @@ pub fn certify<S: Store, O: Sink>(
 ) -> Answer
     ensures files { S.told store.new ≡ S.told store.old }
     ensures cause { CertifyCause
-        (record { told = S.told store.old; before = S.faults store.old; now = S.faults store.new })
+        (record { told = S.told store.old; before = S.faults store.old; now = S.faults store.new; failed = S.failed store.new })
         program.now
         image.now
         (record { told = O.told out.old; left = O.told out.new; before = O.faults out.old; now = O.faults out.new })

@@ -4,13 +4,13 @@ ghost use Rattle.command_line.specs.Command.{shown_walk};
 ghost use Rattle.dist_image.specs.Image.{IsImage};
 ghost use Rattle.elf_reader.specs.Executable.{IsProgram};
 ghost use Rattle.report.specs.Verdict.{IsOfList};
-ghost use Rattle.mssp_tool.specs.Told.{Reads, Puts};
+ghost use Rattle.speculative_runs.specs.Told.{Reads, Puts};
 ghost use Rattle.mssp_tool.specs.Check.{Unchecked, HasCheckFiles, verdict_answer, Judged, CheckCause};
 
 use crate::reading::{image_in, input_in, program_in};
 use answers::Answer;
 use assume_list::{Verdict, check_run};
-use command_line::Walk;
+use command_line::RunOptions;
 use dist_image::Image;
 use elf_reader::Program;
 use outside::{Sink, SinkErr, Store};
@@ -26,12 +26,16 @@ struct Subject {
 }
 
 /// Reads the files of a check.
-fn subject_in<S: Store>(alloc: Global, store: &mut S, walk: &Walk<'_>) -> Result<Subject, Answer>
+fn subject_in<S: Store>(
+    alloc: Global,
+    store: &mut S,
+    walk: &RunOptions<'_>,
+) -> Result<Subject, Answer>
     ensures files { S.told store.new ≡ S.told store.old }
     ensures answer { MatchResult result
         (λ subject. IsProgram subject.program × IsImage subject.image
         × HasCheckFiles (S.told store.old) (shown_walk walk.now) subject.program subject.image subject.input.items)
-        (Unchecked (record { told = S.told store.old; before = S.faults store.old; now = S.faults store.new }) (shown_walk walk.now)) }
+        (Unchecked (record { told = S.told store.old; before = S.faults store.old; now = S.faults store.new; failed = S.failed store.new }) (shown_walk walk.now)) }
 {
     let program = program_in(alloc, store, walk.program)?;
     let image = match image_in(alloc, store, walk.other) {
@@ -78,11 +82,11 @@ pub fn check<S: Store, O: Sink>(
     alloc: Global,
     store: &mut S,
     out: &mut O,
-    walk: &Walk<'_>,
+    walk: &RunOptions<'_>,
 ) -> Answer
     ensures files { S.told store.new ≡ S.told store.old }
     ensures cause { CheckCause
-        (record { told = S.told store.old; before = S.faults store.old; now = S.faults store.new })
+        (record { told = S.told store.old; before = S.faults store.old; now = S.faults store.new; failed = S.failed store.new })
         (shown_walk walk.now)
         (record { told = O.told out.old; left = O.told out.new; before = O.faults out.old; now = O.faults out.new })
         result }

@@ -1,6 +1,6 @@
 //! `trial`: a program that a number makes, and what comes of it.
 ghost use Rattle.command_line.specs.Command.{shown_trial};
-ghost use Rattle.mssp_tool.specs.Told.{Puts, Delivered};
+ghost use Rattle.speculative_runs.specs.Told.{Puts, Delivered};
 ghost use Rattle.mssp_tool.specs.Trial.{TrialCause};
 
 use answers::{Answer, Refusal};

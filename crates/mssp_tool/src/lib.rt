@@ -5,15 +5,13 @@ mod certifying;
 mod check;
 mod distill;
 mod drawn;
-mod driving;
-mod events;
 mod output;
 mod profile;
 mod reading;
 mod replay;
 mod run;
 mod show;
-mod speculating;
 mod top;
+mod values;
 
 pub use top::mssp;

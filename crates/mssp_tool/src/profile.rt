@@ -3,14 +3,14 @@ ghost use Rattle.std.specs.Prelude.{◌≡◌, ◌≤◌, Some, MatchResult};
 ghost use Rattle.command_line.specs.Command.{shown_walk};
 ghost use Rattle.elf_reader.specs.Executable.{IsProgram};
 ghost use Rattle.profile_data.specs.Bytes.{bytes_of};
-ghost use Rattle.mssp_tool.specs.Told.{Reads, OnlyChanges};
+ghost use Rattle.speculative_runs.specs.Told.{Reads, OnlyChanges};
 ghost use Rattle.mssp_tool.specs.Files.{Saved};
 ghost use Rattle.mssp_tool.specs.Profile.{Unprofiled, HasRun, ProfileCause};
 
 use crate::output::save;
 use crate::reading::{input_in, program_in};
 use answers::{Answer, Refusal};
-use command_line::Walk;
+use command_line::RunOptions;
 use elf_reader::Program;
 use outside::Store;
 use profile_data::{Profile, write_profile};
@@ -19,17 +19,21 @@ use std::alloc::Global;
 
 /// What is run: a program, and its input.
 #[derive(Drop)]
-struct Subject {
-    program: Program,
-    input: Vec<u8>,
+pub struct Subject {
+    pub program: Program,
+    pub input: Vec<u8>,
 }
 
 /// Reads the files of a run.
-fn subject_in<S: Store>(alloc: Global, store: &mut S, walk: &Walk<'_>) -> Result<Subject, Answer>
+pub fn subject_in<S: Store>(
+    alloc: Global,
+    store: &mut S,
+    walk: &RunOptions<'_>,
+) -> Result<Subject, Answer>
     ensures files { S.told store.new ≡ S.told store.old }
     ensures answer { MatchResult result
         (λ subject. IsProgram subject.program × HasRun (S.told store.old) (shown_walk walk.now) subject.program subject.input.items)
-        (Unprofiled (record { told = S.told store.old; before = S.faults store.old; now = S.faults store.new }) (shown_walk walk.now)) }
+        (Unprofiled (record { told = S.told store.old; before = S.faults store.old; now = S.faults store.new; failed = S.failed store.new }) (shown_walk walk.now)) }
     ensures faults { S.faults store.old ≤ S.faults store.new }
 {
     let program = program_in(alloc, store, walk.program)?;
@@ -42,7 +46,7 @@ fn subject_in<S: Store>(alloc: Global, store: &mut S, walk: &Walk<'_>) -> Result
 /// Writes the bytes of a profile under that name.
 fn save_profile<S: Store>(alloc: Global, store: &mut S, name: &str, f: &Profile) -> Answer
     ensures { Saved
-        (record { told = S.told store.old; before = S.faults store.old; now = S.faults store.new })
+        (record { told = S.told store.old; before = S.faults store.old; now = S.faults store.new; failed = S.failed store.new })
         (S.told store.new) name.now (bytes_of f.now) result }
 {
     match write_profile(alloc, f) {
@@ -53,10 +57,10 @@ fn save_profile<S: Store>(alloc: Global, store: &mut S, name: &str, f: &Profile)
 
 /// Runs a program through its steps, and writes the profile of that run. `calls` tells whether short
 /// writes are counted in it.
-pub fn profile<S: Store>(alloc: Global, store: &mut S, walk: &Walk<'_>, calls: bool) -> Answer
+pub fn profile<S: Store>(alloc: Global, store: &mut S, walk: &RunOptions<'_>, calls: bool) -> Answer
     ensures files { OnlyChanges (S.told store.old) (S.told store.new) (Some (shown_walk walk.now).other) }
     ensures cause { ProfileCause
-        (record { told = S.told store.old; before = S.faults store.old; now = S.faults store.new })
+        (record { told = S.told store.old; before = S.faults store.old; now = S.faults store.new; failed = S.failed store.new })
         (S.told store.new)
         (shown_walk walk.now)
         calls

@@ -4,10 +4,9 @@ ghost use Rattle.command_line.specs.Command.{shown_replay};
 ghost use Rattle.speculation.specs.Engine.{fresh};
 ghost use Rattle.event_list.specs.Reading.{AreEvents};
 ghost use Rattle.engine.specs.Whole.{model_of, world_of};
-ghost use Rattle.mssp_tool.specs.Told.{Reads, Puts};
+ghost use Rattle.speculative_runs.specs.Told.{Reads, Puts};
 ghost use Rattle.mssp_tool.specs.Replay.{Wanting, IsReady, ReplayCause};
 
-use crate::events::put_replay;
 use crate::reading::{events_in, image_in, input_in, program_in};
 use answers::Answer;
 use command_line::Replay;
@@ -18,6 +17,7 @@ use nosquash::Pair;
 use outside::{Sink, SinkErr, Store};
 use page_tree::PageTree;
 use seq_machine::load;
+use speculative_runs::put_replay;
 use std::alloc::Global;
 
 /// A pair that has had no event, and the list of those that it will be given.
@@ -37,7 +37,7 @@ fn prepare<S: Store, M: Memory>(
     ensures answer { MatchResult result
         (λ ready. IsReady (S.told store.old) (shown_replay replay.now) (world_of M.at ready.pair.engine) ready.list.items
         × (model_of M.at ready.pair.engine ≡ fresh (world_of M.at ready.pair.engine)) × AreEvents ready.list.items)
-        (Wanting (record { told = S.told store.old; before = S.faults store.old; now = S.faults store.new }) (shown_replay replay.now)) }
+        (Wanting (record { told = S.told store.old; before = S.faults store.old; now = S.faults store.new; failed = S.failed store.new }) (shown_replay replay.now)) }
 {
     let program = program_in(alloc, store, replay.program)?;
     let image = match image_in(alloc, store, replay.image) {
@@ -74,7 +74,7 @@ pub fn replay<S: Store, O: Sink>(
 ) -> Answer
     ensures files { S.told store.new ≡ S.told store.old }
     ensures cause { ReplayCause
-        (record { told = S.told store.old; before = S.faults store.old; now = S.faults store.new })
+        (record { told = S.told store.old; before = S.faults store.old; now = S.faults store.new; failed = S.failed store.new })
         (shown_replay replay.now)
         (record { told = O.told out.old; left = O.told out.new; before = O.faults out.old; now = O.faults out.new })
         result }

@@ -3,13 +3,11 @@ ghost use Rattle.std.specs.Prelude.{◌≡◌, ◌≤◌, [], MatchResult, IsNon
 ghost use Rattle.dist_image.specs.Image.{IsImage};
 ghost use Rattle.elf_reader.specs.Executable.{IsProgram};
 ghost use Rattle.command_line.specs.Command.{shown_run};
-ghost use Rattle.mssp_tool.specs.Told.{Reads, Puts, OnlyChanges};
+ghost use Rattle.speculative_runs.specs.Told.{Reads, Puts, OnlyChanges};
 ghost use Rattle.mssp_tool.specs.Run.{Begins, Unready, IsReady, Reported, RunCause};
 ghost use Rattle.seq_machine.specs.States.{state_of};
 
-use crate::driving::drive;
 use crate::reading::{input_in, named_image_in, program_in};
-use crate::speculating::speculate;
 use answers::Answer;
 use command_line::Run;
 use dist_image::Image;
@@ -20,6 +18,7 @@ use nosquash::Pair;
 use outside::{Sink, Store};
 use page_tree::PageTree;
 use seq_machine::{Machine, load};
+use speculative_runs::{drive, speculate};
 use std::alloc::Global;
 
 /// A program, the machine at the start of its run, and what is known of the program.
@@ -41,7 +40,7 @@ fn prepare<S: Store, M: Memory>(
         (λ ready. IsReady (S.told store.old) (shown_run run.now) (state_of M.at ready.machine) ready.image
         × IsImage ready.image × (ready.machine.position ≡ 0) × IsNone ready.machine.end × (ready.machine.out.items ≡ [])
         × IsProgram ready.program × Begins ready.program (state_of M.at ready.machine))
-        (Unready (record { told = S.told store.old; before = S.faults store.old; now = S.faults store.new }) (shown_run run.now)) }
+        (Unready (record { told = S.told store.old; before = S.faults store.old; now = S.faults store.new; failed = S.failed store.new }) (shown_run run.now)) }
     ensures faults { S.faults store.old ≤ S.faults store.new }
 {
     let program = program_in(alloc, store, run.program)?;
@@ -80,7 +79,7 @@ fn run_reported<S: Store, O: Sink, M: Memory>(
     requires program { IsProgram ready.program }
     requires begins { Begins ready.program (state_of M.at ready.machine) }
     ensures { Reported (state_of M.at ready.machine) ready.image (shown_run run.now) name.now
-        (record { told = S.told store.old; before = S.faults store.old; now = S.faults store.new }) (S.told store.new)
+        (record { told = S.told store.old; before = S.faults store.old; now = S.faults store.new; failed = S.failed store.new }) (S.told store.new)
         (record { told = O.told out.old; left = O.told out.new; before = O.faults out.old; now = O.faults out.new })
         result }
 {
@@ -102,7 +101,7 @@ fn run_on<S: Store, O: Sink, M: Memory>(
 ) -> Answer
     ensures files { OnlyChanges (S.told store.old) (S.told store.new) (shown_run run.now).report }
     ensures cause { RunCause
-        (record { told = S.told store.old; before = S.faults store.old; now = S.faults store.new })
+        (record { told = S.told store.old; before = S.faults store.old; now = S.faults store.new; failed = S.failed store.new })
         (S.told store.new)
         (shown_run run.now)
         (record { told = O.told out.old; left = O.told out.new; before = O.faults out.old; now = O.faults out.new })
@@ -123,7 +122,7 @@ fn run_on<S: Store, O: Sink, M: Memory>(
 pub fn run<S: Store, O: Sink>(alloc: Global, store: &mut S, out: &mut O, run: &Run<'_>) -> Answer
     ensures files { OnlyChanges (S.told store.old) (S.told store.new) (shown_run run.now).report }
     ensures cause { RunCause
-        (record { told = S.told store.old; before = S.faults store.old; now = S.faults store.new })
+        (record { told = S.told store.old; before = S.faults store.old; now = S.faults store.new; failed = S.failed store.new })
         (S.told store.new)
         (shown_run run.now)
         (record { told = O.told out.old; left = O.told out.new; before = O.faults out.old; now = O.faults out.new })

@@ -2,7 +2,7 @@
 ghost use Rattle.std.specs.Prelude.{◌≡◌, Some, map, option_map, string_bytes};
 ghost use Rattle.command_line.specs.Command.{shown, command_of};
 ghost use Rattle.answers.specs.Answer.{line_of, status_of, name_of};
-ghost use Rattle.mssp_tool.specs.Told.{Reads, Puts, OnlyChanges};
+ghost use Rattle.speculative_runs.specs.Told.{Reads, Puts, OnlyChanges};
 ghost use Rattle.mssp_tool.specs.Top.{Cause, Tells, Answered, output_of};
 
 use crate::certifying::certify;
@@ -13,6 +13,7 @@ use crate::profile::profile;
 use crate::replay::replay;
 use crate::run::run;
 use crate::show::show;
+use crate::values::values;
 use answers::{Answer, line, status};
 use command_line::{Command, read_command};
 use outside::{Sink, SinkErr, Store};
@@ -27,7 +28,7 @@ fn perform<S: Store, O: Sink>(
 ) -> Answer
     ensures files { OnlyChanges (S.told store.old) (S.told store.new) (output_of (Some (shown command.entry))) }
     ensures cause { Cause
-        (record { told = S.told store.old; before = S.faults store.old; now = S.faults store.new })
+        (record { told = S.told store.old; before = S.faults store.old; now = S.faults store.new; failed = S.failed store.new })
         (S.told store.new)
         (Some (shown command.entry))
         (record { told = O.told out.old; left = O.told out.new; before = O.faults out.old; now = O.faults out.new })
@@ -38,6 +39,7 @@ fn perform<S: Store, O: Sink>(
         Command::Show { image } => show(alloc, store, out, image),
         Command::Replay(asked) => replay(alloc, store, out, &asked),
         Command::Profile { walk, calls } => profile(alloc, store, &walk, calls),
+        Command::Values(asked) => values(alloc, store, &asked),
         Command::Distill(asked) => distill(alloc, store, &asked),
         Command::Check(asked) => check(alloc, store, out, &asked),
         Command::Certify { program, image } => certify(alloc, store, out, program, image),
@@ -54,7 +56,7 @@ fn perform_words<S: Store, O: Sink>(
 ) -> Answer
     ensures files { OnlyChanges (S.told store.old) (S.told store.new) (output_of (option_map shown command.entry)) }
     ensures cause { Cause
-        (record { told = S.told store.old; before = S.faults store.old; now = S.faults store.new })
+        (record { told = S.told store.old; before = S.faults store.old; now = S.faults store.new; failed = S.failed store.new })
         (S.told store.new)
         (option_map shown command.entry)
         (record { told = O.told out.old; left = O.told out.new; before = O.faults out.old; now = O.faults out.new })
@@ -96,7 +98,7 @@ pub fn mssp<S: Store, O: Sink, E: Sink>(
     err: &mut E,
 ) -> u8
     ensures answered { Answered
-        (record { told = S.told store.old; before = S.faults store.old; now = S.faults store.new })
+        (record { told = S.told store.old; before = S.faults store.old; now = S.faults store.new; failed = S.failed store.new })
         (S.told store.new)
         (record { told = O.told out.old; left = O.told out.new; before = O.faults out.old; now = O.faults out.new })
         (record { told = E.told err.old; left = E.told err.new; before = E.faults err.old; now = E.faults err.new })

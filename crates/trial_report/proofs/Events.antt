@@ -7,9 +7,9 @@ use Rattle.cells.specs.Run.{State, is_over, is_end}
 use Rattle.speculation.specs.declared.Event.{Event}
 use Rattle.speculation.specs.World.{World}
 use Rattle.speculation.specs.Engine.{Model, happens, fresh}
-use Rattle.schedules.specs.Schedule.{after}
+use Rattle.speculation_schedules.specs.Schedule.{after}
 use Rattle.dist_image.specs.Image.{Distilled}
-use Rattle.image_world.specs.World.{world}
+use Rattle.image_semantics.specs.World.{world}
 use Rattle.event_list.specs.Draws.{Drawing, generator_of, generator_after, drawn_event, drawn}
 
 -- the same world, from its parts

@@ -4,13 +4,13 @@ use Rattle.cells.specs.Run.{State, is_over}
 use Rattle.speculation.specs.declared.Event.{Event}
 use Rattle.speculation.specs.World.{World}
 use Rattle.speculation.specs.Engine.{Model}
-use Rattle.schedules.specs.Schedule.{after}
+use Rattle.speculation_schedules.specs.Schedule.{after}
 use Rattle.event_list.specs.Draws.{drawn}
 use Rattle.elf_reader.specs.Executable.{Executable}
 use Rattle.elf_reader.specs.Accepted.{program_of}
 use Rattle.seq_machine.specs.Parts.{start_of}
 use Rattle.dist_image.specs.Image.{Distilled}
-use Rattle.image_world.specs.World.{world}
+use Rattle.image_semantics.specs.World.{world}
 use Rattle.profile_data.specs.Profile.{Profiled}
 use Rattle.profile_laws.specs.Profiles.{with_mark, steps, IsProfileOf, IsWide}
 use Rattle.assume_list.specs.declared.verdict.Verdict.{Verdict}
@@ -29,9 +29,11 @@ use Rattle.trial.specs.File.{file_of}
 abbrev pub budget : ℕ
 budget = 10 ^ 9
 
+-- the most events of a trial
 abbrev pub most_events : ℕ
 most_events = 50_000_000
 
+-- the options with which a trial distils
 abbrev pub options : Options
 options = record { rare = 0; hot = 2; goal = 200; limit = 1024 }
 
@@ -68,9 +70,11 @@ Tells number p words steps image text =
 
 -- ---- the trial of a number and a size
 
+-- the program of a trial
 abbrev pub program_made : ℕ → ℕ → Executable
 program_made seed size = program_of (file_of (words seed size))
 
+-- where it begins
 abbrev pub start_made : ℕ → ℕ → State
 start_made seed size = start_of (program_made seed size) []
 

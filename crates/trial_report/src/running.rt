@@ -3,7 +3,7 @@
 ghost use Rattle.std.specs.Prelude.{◌≡◌, ◌≤◌, ◌<◌, ◌^◌, ◌++◌, [], length, codes, decimal, ℕ, false, IfOk, OnOk};
 ghost use Rattle.cells.specs.Run.{is_over};
 ghost use Rattle.speculation.specs.Engine.{fresh};
-ghost use Rattle.schedules.specs.Schedule.{after};
+ghost use Rattle.speculation_schedules.specs.Schedule.{after};
 ghost use Rattle.event_list.specs.Draws.{drawn};
 ghost use Rattle.elf_reader.specs.Executable.{IsProgram};
 ghost use Rattle.dist_image.specs.Image.{IsImage};

@@ -11,6 +11,6 @@ judge-requires g c =
 pub returns-in-Ok-check_run-clause-cause : goal.returns-in-Ok-check_run-clause-cause
 returns-in-Ok-check_run-clause-cause g c =
     checked_cause (shown_walk c.args.walk.now)
-    (record { told = g.S.Store.told c.args.store.now; before = g.S.Store.faults c.args.store.now; now = g.S.Store.faults c.subject_in.new.store })
+    (record { told = g.S.Store.told c.args.store.now; before = g.S.Store.faults c.args.store.now; now = g.S.Store.faults c.subject_in.new.store; failed = g.S.Store.failed c.subject_in.new.store })
     (record { told = g.O.Sink.told c.args.out.now; left = g.O.Sink.told c.judge.new.out; before = g.O.Sink.faults c.args.out.now; now = g.O.Sink.faults c.judge.new.out })
     c.in-Ok.subject.program c.in-Ok.subject.image c.in-Ok.subject.input.items c.in-Ok-check_run.verdict c.judge.result c.in-Ok.ensures.answer.2 c.in-Ok-check_run.ensures c.judge.ensures

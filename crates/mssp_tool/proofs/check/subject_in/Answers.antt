@@ -14,7 +14,7 @@ returns-in-Err-clause-answer g c =
     let w = shown_walk c.args.walk.now in
     let has = c.in_ok-program.ensures.answer.1 in
     let first = c.program_in.ensures in
-    inr (inl (has.0, has.1, not_accepted_within (g.S.Store.told c.args.store.now) (g.S.Store.told c.program_in.new.store) (g.S.Store.faults c.args.store.now) (g.S.Store.faults c.program_in.new.store) (g.S.Store.faults c.image_in.new.store) w.other image_limit source.Image (λ bytes (e : ImageErr). image_from bytes ≡ Err e) refused.Image c.in-Err.answer first.files first.faults c.in-Err.ensures.answer))
+    inr (inl (has.0, has.1, not_accepted_within (g.S.Store.told c.args.store.now) (g.S.Store.told c.program_in.new.store) (g.S.Store.faults c.args.store.now) (g.S.Store.faults c.program_in.new.store) (g.S.Store.faults c.image_in.new.store) (g.S.Store.failed c.image_in.new.store) w.other image_limit source.Image (λ bytes (e : ImageErr). image_from bytes ≡ Err e) refused.Image c.in-Err.answer first.files first.faults c.in-Err.ensures.answer))
 
 pub returns-in-Err-input_in-clause-answer : goal.returns-in-Err-input_in-clause-answer
 returns-in-Err-input_in-clause-answer g c =
@@ -28,7 +28,7 @@ returns-in-Err-input_in-clause-answer g c =
       c.in-Ok.image,
       has.1,
       subst (λ d. HasImage d w.other c.in-Ok.image) first.files c.in-Ok.ensures.answer.1,
-      no_input_within (g.S.Store.told c.args.store.now) (g.S.Store.told c.image_in.new.store) (g.S.Store.faults c.args.store.now) (g.S.Store.faults c.image_in.new.store) (g.S.Store.faults c.input_in.new.store) w.input c.in-Err-input_in.answer (second.files ∙ first.files) low c.in-Err-input_in.ensures.answer,
+      no_input_within (g.S.Store.told c.args.store.now) (g.S.Store.told c.image_in.new.store) (g.S.Store.faults c.args.store.now) (g.S.Store.faults c.image_in.new.store) (g.S.Store.faults c.input_in.new.store) (g.S.Store.failed c.input_in.new.store) w.input c.in-Err-input_in.answer (second.files ∙ first.files) low c.in-Err-input_in.ensures.answer,
     )))
 
 pub returns-in-Ok-input_in-clause-answer : goal.returns-in-Ok-input_in-clause-answer

@@ -4,7 +4,7 @@ use Rattle.profile_laws.specs.Profiles.{with_mark, steps}
 use Rattle.profile_laws.specs.Tally.{profile_of}
 use Rattle.profile_laws.proofs.Law.{tally_is_profile}
 use Rattle.trial_report.specs.Trial.{budget, start_made}
-use Rattle.mssp_tool.specs.Told.{Delivered}
+use Rattle.speculative_runs.specs.Told.{Delivered}
 use Rattle.mssp_tool.proofs.drawn.trial.Goals as goal
 
 pub returns-in-Ok : goal.returns-in-Ok

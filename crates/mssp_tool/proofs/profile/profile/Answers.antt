@@ -15,8 +15,8 @@ returns-in-Ok-profile-clause-files g c =
     let w = shown_walk c.args.walk.now in
     let first = c.subject_in.ensures in
     let f = c.in-Ok-profile.f in
-    saved_changes (record { told = g.S.Store.told c.args.store.now; before = g.S.Store.faults c.args.store.now; now = g.S.Store.faults c.save_profile.new.store }) (g.S.Store.told c.save_profile.new.store) w.other (bytes_of f) c.save_profile.result
-    (saved_within (g.S.Store.told c.args.store.now) (g.S.Store.told c.subject_in.new.store) (g.S.Store.told c.save_profile.new.store) (g.S.Store.faults c.args.store.now) (g.S.Store.faults c.subject_in.new.store) (g.S.Store.faults c.save_profile.new.store) w.other (bytes_of f) c.save_profile.result first.files first.faults c.save_profile.ensures)
+    saved_changes (record { told = g.S.Store.told c.args.store.now; before = g.S.Store.faults c.args.store.now; now = g.S.Store.faults c.save_profile.new.store; failed = g.S.Store.failed c.save_profile.new.store }) (g.S.Store.told c.save_profile.new.store) w.other (bytes_of f) c.save_profile.result
+    (saved_within (g.S.Store.told c.args.store.now) (g.S.Store.told c.subject_in.new.store) (g.S.Store.told c.save_profile.new.store) (g.S.Store.faults c.args.store.now) (g.S.Store.faults c.subject_in.new.store) (g.S.Store.faults c.save_profile.new.store) (g.S.Store.failed c.save_profile.new.store) w.other (bytes_of f) c.save_profile.result first.files first.faults c.save_profile.ensures)
 
 pub returns-in-Ok-profile-clause-cause : goal.returns-in-Ok-profile-clause-cause
 returns-in-Ok-profile-clause-cause g c =
@@ -24,7 +24,7 @@ returns-in-Ok-profile-clause-cause g c =
     let first = c.subject_in.ensures in
     let f = c.in-Ok-profile.f in
     written_cause w c.args.calls (g.S.Store.told c.args.store.now) c.in-Ok.subject.program c.in-Ok.subject.input.items c.in-Ok.ensures.answer.1
-    (g.S.Store.told c.subject_in.new.store) (g.S.Store.told c.save_profile.new.store) (g.S.Store.faults c.args.store.now) (g.S.Store.faults c.subject_in.new.store) (g.S.Store.faults c.save_profile.new.store)
+    (g.S.Store.told c.subject_in.new.store) (g.S.Store.told c.save_profile.new.store) (g.S.Store.faults c.args.store.now) (g.S.Store.faults c.subject_in.new.store) (g.S.Store.faults c.save_profile.new.store) (g.S.Store.failed c.save_profile.new.store)
     f c.save_profile.result first.files first.faults c.in-Ok-profile.ensures.profile c.in-Ok-profile.ensures.narrow c.save_profile.ensures
 
 pub returns-in-Err-Wide-clause-files : goal.returns-in-Err-Wide-clause-files
@@ -35,7 +35,7 @@ pub returns-in-Err-Wide-clause-cause : goal.returns-in-Err-Wide-clause-cause
 returns-in-Err-Wide-clause-cause g c =
     let w = shown_walk c.args.walk.now in
     wide_cause w c.args.calls (g.S.Store.told c.args.store.now) c.in-Ok.subject.program c.in-Ok.subject.input.items c.in-Ok.ensures.answer.1
-    (g.S.Store.told c.subject_in.new.store) (g.S.Store.faults c.args.store.now) (g.S.Store.faults c.subject_in.new.store) c.subject_in.ensures.files
+    (g.S.Store.told c.subject_in.new.store) (g.S.Store.faults c.args.store.now) (g.S.Store.faults c.subject_in.new.store) (g.S.Store.failed c.subject_in.new.store) c.subject_in.ensures.files
     (c.in-Err-Wide.ensures.wide c.in-Err-Wide.field-0-is)
 
 pub returns-clause-files : goal.returns-clause-files

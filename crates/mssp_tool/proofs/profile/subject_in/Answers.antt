@@ -9,4 +9,4 @@ returns-in-Err-clause-answer g c =
     let w = shown_walk c.args.walk.now in
     let has = c.in_ok-program.ensures.answer.1 in
     let first = c.program_in.ensures in
-    inr (inl (has.0, has.1, no_input_within (g.S.Store.told c.args.store.now) (g.S.Store.told c.program_in.new.store) (g.S.Store.faults c.args.store.now) (g.S.Store.faults c.program_in.new.store) (g.S.Store.faults c.input_in.new.store) w.input c.in-Err.answer first.files first.faults c.in-Err.ensures.answer))
+    inr (inl (has.0, has.1, no_input_within (g.S.Store.told c.args.store.now) (g.S.Store.told c.program_in.new.store) (g.S.Store.faults c.args.store.now) (g.S.Store.faults c.program_in.new.store) (g.S.Store.faults c.input_in.new.store) (g.S.Store.failed c.input_in.new.store) w.input c.in-Err.answer first.files first.faults c.in-Err.ensures.answer))

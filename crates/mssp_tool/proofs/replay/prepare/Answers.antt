@@ -4,7 +4,7 @@ use Rattle.dist_image.specs.Reading.{image_from}
 use Rattle.dist_image.specs.declared.error.ImageErr.{ImageErr}
 use Rattle.event_list.specs.Reading.{list_in}
 use Rattle.event_list.specs.declared.error.EventErr.{EventErr}
-use Rattle.image_world.specs.World.{world}
+use Rattle.image_semantics.specs.World.{world}
 use Rattle.speculation.specs.Engine.{fresh}
 use Rattle.engine.specs.Whole.{model_of, world_of}
 use Rattle.seq_machine.specs.Parts.{start_of}
@@ -21,7 +21,7 @@ returns-in-Err-clause-answer g c =
     let r = shown_replay c.args.replay.now in
     let has = c.in_ok-program.ensures.answer.1 in
     let first = c.program_in.ensures in
-    inr (inl (has.0, has.1, not_accepted_within (g.S.Store.told c.args.store.now) (g.S.Store.told c.program_in.new.store) (g.S.Store.faults c.args.store.now) (g.S.Store.faults c.program_in.new.store) (g.S.Store.faults c.image_in.new.store) r.image image_limit source.Image (λ bytes (e : ImageErr). image_from bytes ≡ Err e) refused.Image c.in-Err.answer first.files first.faults c.in-Err.ensures.answer))
+    inr (inl (has.0, has.1, not_accepted_within (g.S.Store.told c.args.store.now) (g.S.Store.told c.program_in.new.store) (g.S.Store.faults c.args.store.now) (g.S.Store.faults c.program_in.new.store) (g.S.Store.faults c.image_in.new.store) (g.S.Store.failed c.image_in.new.store) r.image image_limit source.Image (λ bytes (e : ImageErr). image_from bytes ≡ Err e) refused.Image c.in-Err.answer first.files first.faults c.in-Err.ensures.answer))
 
 pub returns-in-Err-events_in-clause-answer : goal.returns-in-Err-events_in-clause-answer
 returns-in-Err-events_in-clause-answer g c =
@@ -35,7 +35,7 @@ returns-in-Err-events_in-clause-answer g c =
       c.in-Ok.image,
       has.1,
       subst (λ d. HasImage d r.image c.in-Ok.image) first.files c.in-Ok.ensures.answer.1,
-      not_accepted_within (g.S.Store.told c.args.store.now) (g.S.Store.told c.image_in.new.store) (g.S.Store.faults c.args.store.now) (g.S.Store.faults c.image_in.new.store) (g.S.Store.faults c.events_in.new.store) r.events events_limit source.Events (λ bytes (e : EventErr). list_in bytes ≡ Err e) refused.Events c.in-Err-events_in.answer (second.files ∙ first.files) low c.in-Err-events_in.ensures.answer,
+      not_accepted_within (g.S.Store.told c.args.store.now) (g.S.Store.told c.image_in.new.store) (g.S.Store.faults c.args.store.now) (g.S.Store.faults c.image_in.new.store) (g.S.Store.faults c.events_in.new.store) (g.S.Store.failed c.events_in.new.store) r.events events_limit source.Events (λ bytes (e : EventErr). list_in bytes ≡ Err e) refused.Events c.in-Err-events_in.answer (second.files ∙ first.files) low c.in-Err-events_in.ensures.answer,
     )))
 
 pub returns-in-Err-input_in-clause-answer : goal.returns-in-Err-input_in-clause-answer
@@ -53,7 +53,7 @@ returns-in-Err-input_in-clause-answer g c =
       has.1,
       subst (λ d. HasImage d r.image c.in-Ok.image) first.files c.in-Ok.ensures.answer.1,
       subst (λ d. HasEvents d r.events c.in-Ok-events_in.list.items) (second.files ∙ first.files) c.in-Ok-events_in.ensures.answer.1,
-      no_input_within (g.S.Store.told c.args.store.now) (g.S.Store.told c.events_in.new.store) (g.S.Store.faults c.args.store.now) (g.S.Store.faults c.events_in.new.store) (g.S.Store.faults c.input_in.new.store) r.input c.in-Err-input_in.answer (third.files ∙ second.files ∙ first.files) low c.in-Err-input_in.ensures.answer,
+      no_input_within (g.S.Store.told c.args.store.now) (g.S.Store.told c.events_in.new.store) (g.S.Store.faults c.args.store.now) (g.S.Store.faults c.events_in.new.store) (g.S.Store.faults c.input_in.new.store) (g.S.Store.failed c.input_in.new.store) r.input c.in-Err-input_in.answer (third.files ∙ second.files ∙ first.files) low c.in-Err-input_in.ensures.answer,
     ))))
 
 pub returns-in-Ok-new-clause-answer : goal.returns-in-Ok-new-clause-answer

@@ -18,7 +18,7 @@ returns-in-Err-clause-answer g c =
     let r = shown_run c.args.run.now in
     let has = c.in_ok-program.ensures.answer.1 in
     let first = c.program_in.ensures in
-    inr (inl (has.0, has.1, no_named_image_within (g.S.Store.told c.args.store.now) (g.S.Store.told c.program_in.new.store) (g.S.Store.faults c.args.store.now) (g.S.Store.faults c.program_in.new.store) (g.S.Store.faults c.named_image_in.new.store) r.image c.in-Err.answer first.files first.faults c.in-Err.ensures.answer))
+    inr (inl (has.0, has.1, no_named_image_within (g.S.Store.told c.args.store.now) (g.S.Store.told c.program_in.new.store) (g.S.Store.faults c.args.store.now) (g.S.Store.faults c.program_in.new.store) (g.S.Store.faults c.named_image_in.new.store) (g.S.Store.failed c.named_image_in.new.store) r.image c.in-Err.answer first.files first.faults c.in-Err.ensures.answer))
 
 pub returns-in-Err-input_in-clause-answer : goal.returns-in-Err-input_in-clause-answer
 returns-in-Err-input_in-clause-answer g c =
@@ -32,7 +32,7 @@ returns-in-Err-input_in-clause-answer g c =
       c.in-Ok.image,
       has.1,
       is_named_image (g.S.Store.told c.args.store.now) (g.S.Store.told c.program_in.new.store) r.image c.in-Ok.image first.files c.in-Ok.ensures.answer.1,
-      no_input_within (g.S.Store.told c.args.store.now) (g.S.Store.told c.named_image_in.new.store) (g.S.Store.faults c.args.store.now) (g.S.Store.faults c.named_image_in.new.store) (g.S.Store.faults c.input_in.new.store) r.input c.in-Err-input_in.answer (second.files ∙ first.files) low c.in-Err-input_in.ensures.answer,
+      no_input_within (g.S.Store.told c.args.store.now) (g.S.Store.told c.named_image_in.new.store) (g.S.Store.faults c.args.store.now) (g.S.Store.faults c.named_image_in.new.store) (g.S.Store.faults c.input_in.new.store) (g.S.Store.failed c.input_in.new.store) r.input c.in-Err-input_in.answer (second.files ∙ first.files) low c.in-Err-input_in.ensures.answer,
     )))
 
 pub returns-in-Ok-load-clause-answer : goal.returns-in-Ok-load-clause-answer

@@ -1,7 +1,7 @@
 -- The events so far, before which the run had not ended.
 use Rattle.std.proofs.Common.{◌≡◌, ℕ, ◌-◌, ◌<◌, ◌≤◌, false}
 use Rattle.cells.specs.Run.{is_over}
-use Rattle.schedules.specs.Schedule.{after}
+use Rattle.speculation_schedules.specs.Schedule.{after}
 use Rattle.event_list.specs.Draws.{Drawing, generator_after, drawn}
 use Rattle.engine.specs.Whole.{model_of, world_of}
 use Rattle.trial_report.proofs.running.give.Given as goal

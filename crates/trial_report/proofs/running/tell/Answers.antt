@@ -1,10 +1,10 @@
 -- The check, the machine's events and the lines of both, of one program and image.
 use Rattle.std.proofs.Common.{◌≡◌, ℕ, List, [], ◌∷◌, ◌++◌, codes, decimal, ap, ◌∙◌, subst, append_assoc}
 use Rattle.speculation.specs.World.{World}
-use Rattle.schedules.specs.Schedule.{after}
+use Rattle.speculation_schedules.specs.Schedule.{after}
 use Rattle.event_list.specs.Draws.{drawn}
 use Rattle.seq_machine.specs.Parts.{start_of}
-use Rattle.image_world.specs.World.{world}
+use Rattle.image_semantics.specs.World.{world}
 use Rattle.assume_list.specs.Verdicts.{IsVerdict}
 use Rattle.report.specs.Text.{line}
 use Rattle.report.specs.Events.{summary_text}

@@ -1,0 +1,10 @@
+pub mod Runs
+pub mod Parts
+pub mod Drives
+pub mod Stops
+pub mod Advances
+pub mod Turns
+pub mod Reports
+pub mod Along
+pub mod Replayed
+pub mod Unsquashed

@@ -1,0 +1,11 @@
+//! Runs and replays of a speculative machine: events are given to it one after the other, and what they
+//! put is put as it comes.
+#![tactic(auto)]
+
+mod driving;
+mod events;
+mod speculating;
+
+pub use driving::{drive, stand};
+pub use events::put_replay;
+pub use speculating::{Schedule, behind, has_come, put_new, speculate, turn, write_report};

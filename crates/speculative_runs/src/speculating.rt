@@ -1,0 +1,223 @@
+//! A run of a speculative machine: it is given events until it has come far enough, and then told of
+//! by a report. It is driven as a [`Pair`], which squashes nothing where its image fits and is met.
+ghost use Rattle.std.specs.Prelude.{◌≡◌, ◌+◌, ◌%◌, ◌<◌, ◌≤◌, ◌^◌, ℕ, false, [], length, drop, slice_get, Some, IfOk, OnOk, IfErr};
+ghost use Rattle.outside.specs.Answers.{Gains};
+ghost use Rattle.command_line.specs.Command.{shown_run};
+ghost use Rattle.cells.specs.Run.{is_over};
+ghost use Rattle.dist_image.specs.Image.{IsImage};
+ghost use Rattle.speculation.specs.Engine.{fresh};
+ghost use Rattle.speculation.specs.Rounds.{round};
+ghost use Rattle.speculation_schedules.specs.Schedule.{after, has_come};
+ghost use Rattle.engine.specs.Whole.{start_of, model_of, world_of, image_of, slaves_of};
+ghost use Rattle.report.specs.Events.{summary_text};
+ghost use Rattle.speculative_runs.specs.Told.{Reads, Puts, Written};
+ghost use Rattle.speculative_runs.specs.Driven.{Stops, CutOff};
+ghost use Rattle.speculative_runs.specs.Speculated.{schedule_of, events_of, IsStop, Unwritten, Speculated};
+
+use crate::driving::{put_from, stand};
+use answers::{Answer, Source};
+use command_line::Run;
+use event_list::Event;
+use memory::Memory;
+use nosquash::Pair;
+use outside::{Sink, Store, StoreErr};
+use report::summary_bytes;
+use std::alloc::Global;
+
+/// Which events a machine is given.
+#[derive(Clone, Copy)]
+pub enum Schedule {
+    /// Rounds, in which each actor has its turn.
+    Rounds,
+    /// Serial steps alone.
+    Alone,
+}
+
+// The events that a run is given.
+fn schedule_of(run: &Run<'_>) -> Schedule
+    ensures { result ≡ schedule_of (shown_run run.now).image }
+{
+    match run.image {
+        Some(_) => Schedule::Rounds,
+        None => Schedule::Alone,
+    }
+}
+
+/// The event at a place of a round, which has as many as there are slaves and seven more.
+#[inline(always)]
+pub fn turn(slaves: u8, place: u8) -> Event
+    requires few { slaves ≤ 64 }
+    requires place { place < slaves + 7 }
+    ensures { slice_get (round slaves) place ≡ Some result }
+{
+    match place {
+        0 => Event::Restart,
+        1 => Event::Serial,
+        2..=5 => Event::Master,
+        place if place < slaves + 6 => Event::Slave(place - 6),
+        _ => Event::Commit,
+    }
+}
+
+// The event of a schedule at a place of its rounds.
+#[inline(always)]
+#[tactic(auto, using(crate::proofs::Turns::at_turn))]
+fn event_at(schedule: Schedule, slaves: u8, place: u8) -> Event
+    requires few { slaves ≤ 64 }
+    requires place { place < slaves + 7 }
+    ensures { (k : ℕ) → k % (slaves + 7) ≡ place → result ≡ events_of schedule slaves k }
+{
+    match schedule {
+        Schedule::Rounds => turn(slaves, place),
+        Schedule::Alone => Event::Serial,
+    }
+}
+
+/// The place behind a place of a round: rounds follow one another. It is kept, and not divided for.
+#[inline(always)]
+pub fn behind(slaves: u8, place: u8) -> u8
+    requires few { slaves ≤ 64 }
+    requires place { place < slaves + 7 }
+    ensures within { result < slaves + 7 }
+    ensures next { (k : ℕ) → k % (slaves + 7) ≡ place → (k + 1) % (slaves + 7) ≡ result }
+{
+    if place < slaves + 6 { place + 1 } else { 0 }
+}
+
+/// Whether the machine has ended, or stands at this position or past it.
+#[inline(always)]
+pub fn has_come<M: Memory>(pair: &Pair<M>, far: u64) -> bool
+    ensures { result ≡ has_come far (model_of M.at pair.now.engine) }
+{
+    let machine = pair.engine().committed();
+    machine.end.is_some() || far <= machine.position
+}
+
+/// Puts the output from a place on, and gives its length.
+///
+/// # Errors
+///
+/// The answer that stops the run: the sink failed, or there was no memory.
+#[inline(always)]
+pub fn put_new<O: Sink, M: Memory>(
+    alloc: Global,
+    out: &mut O,
+    pair: &Pair<M>,
+    from: usize,
+) -> Result<usize, Answer>
+    requires { from ≤ length (model_of M.at pair.now.engine).committed.env.output }
+    ensures length { IfOk result (λ n. n ≡ length (model_of M.at pair.now.engine).committed.env.output) }
+    ensures ok { OnOk result (Gains (O.told out.old) (O.told out.new)
+        (drop from (model_of M.at pair.now.engine).committed.env.output)) }
+    ensures err { IfErr result (Stops (O.told out.old) (O.told out.new) (O.faults out.old) (O.faults out.new)
+        (drop from (model_of M.at pair.now.engine).committed.env.output)) }
+    ensures faults { O.faults out.old ≤ O.faults out.new }
+{
+    let machine = pair.engine().committed();
+    match put_from(alloc, out, &machine.out, from) {
+        Ok(()) => Ok(machine.out.len()),
+        Err(answer) => Err(answer),
+    }
+}
+
+/// Gives the pair events until its run has ended or stands at the budget or past it, and puts its
+/// output as it comes.
+fn advance<O: Sink, M: Memory>(
+    alloc: Global,
+    pair: &mut Pair<M>,
+    schedule: Schedule,
+    slaves: u8,
+    budget: u64,
+    out: &mut O,
+) -> Result<(), Answer>
+    requires fresh { model_of M.at pair.old.engine ≡ fresh (world_of M.at pair.old.engine) }
+    requires image { IsImage (image_of pair.old.engine) }
+    requires running { is_over (start_of M.at pair.old.engine) ≡ false }
+    requires silent { (start_of M.at pair.old.engine).env.output ≡ [] }
+    requires slaves { slaves ≡ slaves_of pair.old.engine }
+    requires some { 1 ≤ slaves }
+    requires few { slaves ≤ 64 }
+    requires least { 1 ≤ budget }
+    requires most { budget ≤ 10 ^ 12 }
+    ensures ok { OnOk result ((k : ℕ) × IsStop (world_of M.at pair.old.engine) (after (world_of M.at pair.old.engine) (events_of schedule (slaves_of pair.old.engine))) budget k
+        × (model_of M.at pair.new.engine ≡ after (world_of M.at pair.old.engine) (events_of schedule (slaves_of pair.old.engine)) k)
+        × Gains (O.told out.old) (O.told out.new) (after (world_of M.at pair.old.engine) (events_of schedule (slaves_of pair.old.engine)) k).committed.env.output) }
+    ensures err { IfErr result (λ a. (k : ℕ) × IsStop (world_of M.at pair.old.engine) (after (world_of M.at pair.old.engine) (events_of schedule (slaves_of pair.old.engine))) budget k
+        × CutOff (record { told = O.told out.old; left = O.told out.new; before = O.faults out.old; now = O.faults out.new })
+        (after (world_of M.at pair.old.engine) (events_of schedule (slaves_of pair.old.engine)) k).committed.env.output a) }
+{
+    let mut given: u64 = 0;
+    let mut place = 0;
+    let mut put = 0;
+    while !has_come(pair, budget) {
+        let e = event_at(schedule, slaves, place);
+        match pair.event(alloc, e) {
+            Ok(_) => {}
+            Err(_) => return Err(Answer::Memory),
+        }
+        match put_new(alloc, out, pair, put) {
+            Ok(length) => put = length,
+            Err(answer) => return Err(answer),
+        }
+        place = behind(slaves, place);
+        given += 1;
+    }
+    Ok(())
+}
+
+/// Writes the lines that sum up what the pair did.
+///
+/// # Errors
+///
+/// The answer that stops the command: the store failed, or there was no memory.
+pub fn write_report<S: Store, M: Memory>(
+    alloc: Global,
+    store: &mut S,
+    name: &str,
+    pair: &Pair<M>,
+) -> Result<(), Answer>
+    ensures ok { OnOk result (Written (S.told store.old) (S.told store.new) name.now (summary_text (model_of M.at pair.now.engine))) }
+    ensures err { IfErr result (Unwritten
+        (record { told = S.told store.old; before = S.faults store.old; now = S.faults store.new; failed = S.failed store.new }) (S.told store.new) name.now) }
+{
+    let Ok(text) = summary_bytes(alloc, pair.engine()) else {
+        return Err(Answer::Memory);
+    };
+    match store.write(alloc, name, &text) {
+        Ok(()) => Ok(()),
+        Err(StoreErr::Memory) => Err(Answer::Memory),
+        Err(_) => Err(Answer::StoreFault(Source::Report)),
+    }
+}
+
+/// Runs a pair that has had no event, in rounds beside an image and else by serial steps alone,
+/// puts its output as it comes, and writes a report of that name.
+pub fn speculate<S: Store, O: Sink, M: Memory>(
+    alloc: Global,
+    store: &mut S,
+    out: &mut O,
+    pair: &mut Pair<M>,
+    run: &Run<'_>,
+    name: &str,
+) -> Answer
+    requires fresh { model_of M.at pair.old.engine ≡ fresh (world_of M.at pair.old.engine) }
+    requires image { IsImage (image_of pair.old.engine) }
+    requires running { is_over (start_of M.at pair.old.engine) ≡ false }
+    requires silent { (start_of M.at pair.old.engine).env.output ≡ [] }
+    requires slaves { run.now.slaves ≡ slaves_of pair.old.engine }
+    ensures { Speculated (world_of M.at pair.old.engine)
+        (after (world_of M.at pair.old.engine) (events_of (schedule_of (shown_run run.now).image) (slaves_of pair.old.engine))) run.now.budget name.now
+        (record { told = S.told store.old; before = S.faults store.old; now = S.faults store.new; failed = S.failed store.new }) (S.told store.new)
+        (record { told = O.told out.old; left = O.told out.new; before = O.faults out.old; now = O.faults out.new })
+        result }
+{
+    let schedule = schedule_of(run);
+    match advance(alloc, pair, schedule, run.slaves, run.budget, out) {
+        Ok(()) => {}
+        Err(answer) => return answer,
+    }
+    match write_report(alloc, store, name, pair) {
+        Ok(()) => stand(pair.engine().committed()),
+        Err(answer) => answer,
+    }
+}
