@@ -1,11 +1,11 @@
 //! `certify`: whether an image fits, and which rule it breaks first.
 
 use crate::printing::image_of;
-use run_world::images::*;
-use run_world::outside_world::{Fails, Files, Left, SURE, perform_over};
-use run_world::programs::*;
+use command_fixtures::outside_world::{Fails, Files, Left, SURE, perform_over};
 use std::alloc::{AllocError, Global};
 use std::test::Fail;
+use test_programs::images::*;
+use test_programs::programs::*;
 
 fn certify(
     alloc: Global,

@@ -1,11 +1,11 @@
 //! Replays beside distilled images: with an image that fits, nothing is squashed as long as the run
 //! meets its list.
 
-use run_world::images::*;
-use run_world::outside_world::{Files, SURE, perform_over};
-use run_world::programs::*;
+use command_fixtures::outside_world::{Files, SURE, perform_over};
 use std::alloc::{AllocError, Global};
 use std::test::Fail;
+use test_programs::images::*;
+use test_programs::programs::*;
 
 /// Of the program whose input decides, by its run without input: ten slots, three anchors, and a branch
 /// of which the taken side is cut.

@@ -1,11 +1,11 @@
 //! Faults of the store: each of a command's calls fails once, and its line names the file of that call.
 
 use crate::profiles::COMPARE_LOOP_PROFILE;
-use run_world::images::*;
-use run_world::outside_world::{Fails, Files, SURE, perform_over};
-use run_world::programs::*;
+use command_fixtures::outside_world::{Fails, Files, SURE, perform_over};
 use std::alloc::{AllocError, Global};
 use std::test::Fail;
+use test_programs::images::*;
+use test_programs::programs::*;
 
 /// The words of each command that reads files, and the names of the files in the order of its calls.
 /// The file `m` is an image, but for `distill` a profile.
@@ -45,7 +45,7 @@ fn files(alloc: Global, words: &[&str]) -> Result<Files, AllocError> {
 #[test]
 fn each_call_of_the_store_is_told_by_its_file(rt: HostRuntime) -> Result<(), Fail> {
     let alloc = rt.alloc();
-    for (words, names) in CALLS {
+    for &(words, names) in &CALLS {
         for (place, name) in names.iter().enumerate() {
             let fails = Fails {
                 store: place as u64 + 1,
@@ -53,17 +53,15 @@ fn each_call_of_the_store_is_told_by_its_file(rt: HostRuntime) -> Result<(), Fai
             };
             let left = perform_over(alloc, words, files(alloc, words)?, fails)?;
             let line = format!(in alloc; "mssp: store fault {name}\n")?;
-            assert_eq!(rt; left.status, 112, "{words:?} {name}");
-            assert_eq!(rt; left.err.as_slice(), line.as_bytes(), "{words:?} {name}");
-            assert!(rt; left.report.is_empty(), "{words:?} {name}");
+            let told = (left.status, left.err.as_slice(), left.report.is_empty());
+            assert_eq!(rt; told, (112, line.as_bytes(), true), "{words:?} {name}");
         }
         let fails = Fails {
             store: names.len() as u64 + 1,
             ..SURE
         };
         let left = perform_over(alloc, words, files(alloc, words)?, fails)?;
-        assert_eq!(rt; left.status, 0, "{words:?}");
-        assert!(rt; left.err.is_empty(), "{words:?}");
+        assert_eq!(rt; (left.status, left.err.is_empty()), (0, true), "{words:?}");
     }
     Ok(())
 }

@@ -1,11 +1,11 @@
 //! Images that mean no good, event by event, and an output that tears.
 
-use run_world::hostile_images::*;
-use run_world::images::*;
-use run_world::outside_world::{Fails, Files, SURE, perform_over, perform_torn};
-use run_world::programs::*;
+use command_fixtures::outside_world::{Fails, Files, SURE, perform_over, perform_torn};
 use std::alloc::{AllocError, Global};
 use std::test::Fail;
+use test_programs::hostile_images::*;
+use test_programs::images::*;
+use test_programs::programs::*;
 
 /// The loop of ten turns, with an image and a list of events.
 fn files(alloc: Global, image: &[u32], events: &str) -> Result<Files, AllocError> {

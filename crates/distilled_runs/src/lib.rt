@@ -14,3 +14,5 @@ mod hostile;
 mod printing;
 #[cfg(test)]
 mod profiles;
+#[cfg(test)]
+mod values;

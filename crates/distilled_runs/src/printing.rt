@@ -2,10 +2,10 @@
 //! beside the image that is made of it.
 
 use crate::distilled::text_of;
-use run_world::outside_world::{Files, Left, SURE, perform_over};
-use run_world::programs::*;
+use command_fixtures::outside_world::{Files, Left, SURE, perform_over};
 use std::alloc::{AllocError, Global};
 use std::test::Fail;
+use test_programs::programs::*;
 
 /// The word that begins every image.
 const MAGIC: u32 = 0x5053534D;

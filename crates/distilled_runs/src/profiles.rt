@@ -1,10 +1,10 @@
 //! `profile`, `distill` and `check`: from a run to an image of its program, and to what the image
 //! assumes.
 
-use run_world::images::*;
-use run_world::outside_world::{Fails, Files, SURE, perform, perform_over};
-use run_world::programs::*;
+use command_fixtures::outside_world::{Fails, Files, SURE, perform, perform_over};
 use std::test::Fail;
+use test_programs::images::*;
+use test_programs::programs::*;
 
 /// The profile of a loop of ten turns with a compare that is never true, as the numbers of four bytes
 /// of its file: 45 steps, with which the run ends, and nine rows of seven numbers. A row has its

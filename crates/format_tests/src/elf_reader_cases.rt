@@ -1,6 +1,6 @@
 //! Files that are refused and accepted, with answers from outside.
 
-use elf_reader::{ElfErr, read_elf, word_at};
+use elf_reader::{ElfErr, Program, read_elf, word_at};
 use std::alloc::{AllocError, Global};
 use std::test::Fail;
 
@@ -147,21 +147,31 @@ fn answers_each_prefix(rt: HostRuntime) -> Result<(), Fail> {
     Ok(())
 }
 
+/// A number of headers, the length of the file, the type of the first header, and the refusal.
+static COUNTS: [(u8, usize, u8, Option<ElfErr>); 4] = [
+    (64, 52 + 64 * 32, 0, None),
+    (65, 52 + 65 * 32, 0, Some(ElfErr::TooMany)),
+    (65, 52 + 65 * 32, 3, Some(ElfErr::TooMany)),
+    (65, 51 + 65 * 32, 0, Some(ElfErr::Table)),
+];
+
 #[test]
 fn counts_headers(rt: HostRuntime) -> Result<(), Fail> {
-    let cases = [
-        (64, 52 + 64 * 32, 0, None),
-        (65, 52 + 65 * 32, 0, Some(ElfErr::TooMany)),
-        (65, 52 + 65 * 32, 3, Some(ElfErr::TooMany)),
-        (65, 51 + 65 * 32, 0, Some(ElfErr::Table)),
-    ];
-    for (count, length, kind, want) in cases {
+    for &(count, length, kind, want) in &COUNTS {
         let mut file = changed(rt.alloc(), &EXIT_7, 52, &[(44, count)])?;
         file.push(kind)?;
         file.resize(length, 0)?;
         assert_eq!(rt; read_elf(rt.alloc(), &file).err(), want, "{count} headers");
     }
     Ok(())
+}
+
+/// The address, the bytes and the zeros of a program's only part.
+fn only_part(program: &Program) -> Option<(u32, usize, u32)> {
+    match program.parts.as_slice() {
+        [part] => Some((part.at, part.bytes.len(), part.zeros)),
+        _ => None,
+    }
 }
 
 #[test]
@@ -178,16 +188,15 @@ fn reads_parts(rt: HostRuntime) -> Result<(), Fail> {
     ];
     for (file, entry, at, length, zeros, first_break) in cases {
         let program = read_elf(rt.alloc(), file)?;
-        assert_eq!(rt; program.entry, entry);
-        assert_eq!(rt; program.first_break, first_break);
-        assert_eq!(rt; program.parts.len(), 1);
-        let part = &program.parts[0];
-        assert_eq!(rt;
-            (part.at, part.bytes.len(), part.zeros),
-            (at, length, zeros)
-        );
+        assert_eq!(rt; only_part(&program), Some((at, length, zeros)));
+        let about = (program.entry, program.first_break);
+        assert_eq!(rt; about, (entry, first_break));
     }
+    Ok(())
+}
 
+#[test]
+fn reads_no_part(rt: HostRuntime) -> Result<(), Fail> {
     // With no headers there is no part, and the table may lie anywhere.
     let no_headers = changed(rt.alloc(), &EXIT_7, 52, &[(31, 0xFF), (44, 0)])?;
     let program = read_elf(rt.alloc(), &no_headers)?;
@@ -195,27 +204,36 @@ fn reads_parts(rt: HostRuntime) -> Result<(), Fail> {
     Ok(())
 }
 
+/// Addresses of that program, and the words there.
+static LINKED_WORDS: [(u32, u32); 6] = [
+    (0x1_0070, 0),
+    (0x1_0074, 0x0000_0597),
+    (0x1_0078, 0x02C5_8593),
+    (0x1_0094, 0x0000_0073),
+    (0x1_00A0, 0x000A_6968),
+    (0x1_00A4, 0),
+];
+
+/// The same of the parts that overlap.
+static OVERLAPPING_WORDS: [(u32, u32); 7] = [
+    (0, 0x0403_0201),
+    (2, 0x0201_0403),
+    (4, 0x0403_0201),
+    (8, 0),
+    (12, 0x100F_0E0D),
+    (16, 0),
+    (0xFFFF_FFFE, 0x0201_0000),
+];
+
 #[test]
 fn reads_words(rt: HostRuntime) -> Result<(), Fail> {
     let linked = read_elf(rt.alloc(), &LINKED)?;
+    for &(address, word) in &LINKED_WORDS {
+        assert_eq!(rt; word_at(&linked, address), word, "at {address:08x}");
+    }
     let overlapping = read_elf(rt.alloc(), &OVERLAPPING)?;
-    let cases = [
-        (&linked, 0x1_0070, 0),
-        (&linked, 0x1_0074, 0x0000_0597),
-        (&linked, 0x1_0078, 0x02C5_8593),
-        (&linked, 0x1_0094, 0x0000_0073),
-        (&linked, 0x1_00A0, 0x000A_6968),
-        (&linked, 0x1_00A4, 0),
-        (&overlapping, 0, 0x0403_0201),
-        (&overlapping, 2, 0x0201_0403),
-        (&overlapping, 4, 0x0403_0201),
-        (&overlapping, 8, 0),
-        (&overlapping, 12, 0x100F_0E0D),
-        (&overlapping, 16, 0),
-        (&overlapping, 0xFFFF_FFFE, 0x0201_0000),
-    ];
-    for (program, address, word) in cases {
-        assert_eq!(rt; word_at(program, address), word, "at {address:08x}");
+    for &(address, word) in &OVERLAPPING_WORDS {
+        assert_eq!(rt; word_at(&overlapping, address), word, "at {address:08x}");
     }
     Ok(())
 }

@@ -1,10 +1,7 @@
-//! Files read and written, and their refusals: tests of `outside`, `elf_reader`, `dist_image`, `profile_data` and `event_list`.
+//! Executables, profiles and lists of events read and written, and their refusals; stores and sinks in memory: tests of
+//! `elf_reader`, `profile_data`, `event_list` and `outside`.
 #![tactic(auto)]
 
-#[cfg(test)]
-mod dist_image_cases;
-#[cfg(test)]
-mod dist_image_writes_cases;
 #[cfg(test)]
 mod elf_reader_cases;
 #[cfg(test)]

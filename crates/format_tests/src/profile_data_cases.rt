@@ -5,6 +5,7 @@ use indexmap::IndexMap;
 use profile_data::{Profile, ProfileErr, read_profile, write_profile};
 use std::alloc::{AllocError, Global};
 use std::test::Fail;
+use test_programs::programs::bytes_of;
 
 const MAGIC: u32 = 0x4650_534D;
 
@@ -53,15 +54,6 @@ static TWO_TARGETS: [u32; 22] = [
     0xFFFF_FFFC,
 ];
 
-/// The bytes of numbers, the lowest byte of each first.
-fn bytes_of(alloc: Global, numbers: &[u32]) -> Result<Vec<u8>, AllocError> {
-    let mut bytes = Vec::new(alloc);
-    for number in numbers {
-        bytes.extend_from_slice(&number.to_le_bytes())?;
-    }
-    Ok(bytes)
-}
-
 /// How a file of these numbers is refused.
 fn refusal(alloc: Global, numbers: &[u32]) -> Result<Option<ProfileErr>, AllocError> {
     let bytes = bytes_of(alloc, numbers)?;
@@ -69,7 +61,7 @@ fn refusal(alloc: Global, numbers: &[u32]) -> Result<Option<ProfileErr>, AllocEr
 }
 
 #[test]
-fn reads_and_writes_nine_rows(rt: HostRuntime) -> Result<(), Fail> {
+fn reads_nine_rows(rt: HostRuntime) -> Result<(), Fail> {
     let bytes = bytes_of(rt.alloc(), &NEVER_TRUE)?;
     let profile = read_profile(rt.alloc(), &bytes)?;
     assert_eq!(rt;
@@ -78,9 +70,17 @@ fn reads_and_writes_nine_rows(rt: HostRuntime) -> Result<(), Fail> {
     );
     let counts = profile.row(0x1_0010).map(|row| (row.executed, row.taken));
     assert_eq!(rt; counts, Some((10, 9)));
-    assert_eq!(rt; profile.row(0x1_0018).map(|row| row.pc), None);
-    assert_eq!(rt; profile.at(6).map(|row| row.pc), Some(0x1_001C));
-    assert_eq!(rt; profile.at(9).map(|row| row.pc), None);
+    Ok(())
+}
+
+#[test]
+fn finds_and_writes_nine_rows(rt: HostRuntime) -> Result<(), Fail> {
+    let bytes = bytes_of(rt.alloc(), &NEVER_TRUE)?;
+    let profile = read_profile(rt.alloc(), &bytes)?;
+    let absent = profile.row(0x1_0018).map(|row| row.pc);
+    let seventh = profile.at(6).map(|row| row.pc);
+    let past = profile.at(9).map(|row| row.pc);
+    assert_eq!(rt; (absent, seventh, past), (None, Some(0x1_001C), None));
     let written = write_profile(rt.alloc(), &profile)?;
     assert_eq!(rt; written.as_slice(), bytes.as_slice());
     Ok(())
@@ -90,10 +90,9 @@ fn reads_and_writes_nine_rows(rt: HostRuntime) -> Result<(), Fail> {
 fn reads_and_writes_targets(rt: HostRuntime) -> Result<(), Fail> {
     let bytes = bytes_of(rt.alloc(), &TWO_TARGETS)?;
     let profile = read_profile(rt.alloc(), &bytes)?;
-    let marks = profile.at(0).map(|row| (row.read, row.changed));
-    assert_eq!(rt; marks, Some((true, false)));
-    let marks = profile.at(1).map(|row| (row.read, row.changed));
-    assert_eq!(rt; marks, Some((false, true)));
+    let first = profile.at(0).map(|row| (row.read, row.changed));
+    let second = profile.at(1).map(|row| (row.read, row.changed));
+    assert_eq!(rt; (first, second), (Some((true, false)), Some((false, true))));
     let last = profile.row(4).map(|row| row.targets.last().copied());
     assert_eq!(rt; last, Some(Some(0xFFFF_FFFC)));
     let written = write_profile(rt.alloc(), &profile)?;
@@ -217,19 +216,23 @@ fn second_refusal(
     Ok(read_profile(alloc, &bytes).err())
 }
 
+/// The most that eight bytes count to.
+const MOST: [u32; 2] = [ALL, ALL];
+
+/// The steps of the first row, the numbers of the second, and the refusal.
+static SECOND_ROWS: [([u32; 2], &[u32], Option<ProfileErr>); 7] = [
+    ([ALL - 1, ALL], &[0, 0, 1, 0, 0, 0, 0], None),
+    (MOST, &[0, 0, 1, 0, 0, 0, 0], Some(ProfileErr::Sum)),
+    (MOST, &[0, 0, ALL, ALL, 0, 0, 0], Some(ProfileErr::Sum)),
+    (MOST, &[0, 0, ALL, ALL, 0, 0, 0, 0], Some(ProfileErr::Sum)),
+    (MOST, &[4, 4, 1, 0, 0, 0, 0], Some(ProfileErr::Kind(1))),
+    (MOST, &[4, 0, 0, 0, 0, 0, 0], Some(ProfileErr::Range(1))),
+    (MOST, &[4, 0, 1, 0, 0, 0, ALL], Some(ProfileErr::Twice(1))),
+];
+
 #[test]
 fn refuses_second_rows(rt: HostRuntime) -> Result<(), Fail> {
-    let most = [ALL, ALL];
-    let cases: [([u32; 2], &[u32], Option<ProfileErr>); 7] = [
-        ([ALL - 1, ALL], &[0, 0, 1, 0, 0, 0, 0], None),
-        (most, &[0, 0, 1, 0, 0, 0, 0], Some(ProfileErr::Sum)),
-        (most, &[0, 0, ALL, ALL, 0, 0, 0], Some(ProfileErr::Sum)),
-        (most, &[0, 0, ALL, ALL, 0, 0, 0, 0], Some(ProfileErr::Sum)),
-        (most, &[4, 4, 1, 0, 0, 0, 0], Some(ProfileErr::Kind(1))),
-        (most, &[4, 0, 0, 0, 0, 0, 0], Some(ProfileErr::Range(1))),
-        (most, &[4, 0, 1, 0, 0, 0, ALL], Some(ProfileErr::Twice(1))),
-    ];
-    for (executed, row, want) in cases {
+    for &(executed, row, want) in &SECOND_ROWS {
         let answer = second_refusal(rt.alloc(), executed, row)?;
         assert_eq!(rt; answer, want, "{row:?}");
     }

@@ -141,6 +141,7 @@ fn put_by_turns(
         assert_eq!(rt; tree.word(a), v, "{i}");
         let other = PLACES[(i / 9 % 9) as usize].wrapping_add(i % 7);
         assert_eq!(rt; tree.word(other), plain.word(other), "{i}");
+        assert_eq!(rt; tree.load_word(other), plain.load_word(other), "{i}");
         assert_eq!(rt;
             tree.fetch(other / 4 * 4),
             plain.fetch(other / 4 * 4),
@@ -157,13 +158,49 @@ fn leaves_by_turns(rt: HostRuntime) -> Result<(), Fail> {
     put_by_turns(rt.alloc(), &rt, &mut tree, &mut plain)?;
     let snapshot = tree.snapshot(rt.alloc())?;
     let before = plain.snapshot(rt.alloc())?;
-    for a in PLACES {
+    for &a in &PLACES {
         assert_eq!(rt; snapshot.word(a), before.word(a));
         tree.put_word(rt.alloc(), a, 0)?;
         assert_eq!(rt; tree.word(a), 0);
     }
-    for a in PLACES {
+    for &a in &PLACES {
         assert_eq!(rt; snapshot.word(a), before.word(a));
+    }
+    Ok(())
+}
+
+// Loads words from pairs of leaves that lie 512 KiB apart, and puts to one of each pair, by turns.
+fn load_and_put(
+    alloc: Global,
+    rt: &impl Abort,
+    tree: &mut PageTree,
+    plain: &mut PlainMemory,
+) -> Result<(), Fail> {
+    for i in 0..1_000u32 {
+        let a = 0x1_0000 + i % 64 * 0x100;
+        let b = a + 0x8_0000;
+        assert_eq!(rt; tree.load_word(a), plain.load_word(a), "{i}");
+        assert_eq!(rt; tree.load_word(b), plain.load_word(b), "{i}");
+        let place = if i % 3 == 0 { a } else { b + i % 5 };
+        tree.put_word(alloc, place, i)?;
+        plain.put_word(alloc, place, i)?;
+        assert_eq!(rt; tree.load_word(a), plain.load_word(a), "{i}");
+        assert_eq!(rt; tree.load_word(b), plain.load_word(b), "{i}");
+    }
+    Ok(())
+}
+
+#[test]
+fn loads_follow_puts(rt: HostRuntime) -> Result<(), Fail> {
+    let mut tree = PageTree::empty(rt.alloc())?;
+    let mut plain = PlainMemory::empty(rt.alloc())?;
+    load_and_put(rt.alloc(), &rt, &mut tree, &mut plain)?;
+    let mut snapshot = tree.snapshot(rt.alloc())?;
+    let mut before = plain.snapshot(rt.alloc())?;
+    load_and_put(rt.alloc(), &rt, &mut tree, &mut plain)?;
+    for k in 0..64u32 {
+        let a = 0x9_0000 + k * 0x100;
+        assert_eq!(rt; snapshot.load_word(a), before.load_word(a));
     }
     Ok(())
 }
@@ -321,7 +358,7 @@ fn run<M: Memory>(alloc: Global, words: &[u32]) -> Result<(u64, Option<End>), Fa
 
 #[test]
 fn programs_end(rt: HostRuntime) -> Result<(), Fail> {
-    for case in CASES {
+    for case in &CASES {
         let wanted = (case.steps, Some(End::Exit(case.code)));
         assert_eq!(rt; run::<PageTree>(rt.alloc(), case.words)?, wanted);
         assert_eq!(rt; run::<PlainMemory>(rt.alloc(), case.words)?, wanted);

@@ -1,6 +1,6 @@
 //! Words as a new user would try them.
 
-use command_line::{Command, Distill, Replay, Run, Walk, read_command};
+use command_line::{Command, Distill, Replay, Run, RunOptions, read_command};
 use std::alloc::{AllocError, Global};
 use std::test::Fail;
 
@@ -185,11 +185,13 @@ fn reads_profiles_and_checks(rt: HostRuntime) -> Result<(), Fail> {
     for &(options, input, budget) in &READS_PROFILES_AND_CHECKS_CASES {
         let mut profile = words_of(rt.alloc(), &["profile", "p", "--input"])?;
         let mut check = words_of(rt.alloc(), &["check", "p", "--input"])?;
+        let mut values = words_of(rt.alloc(), &["values", "p", "--input"])?;
         for option in options {
             profile.push(String::from_str(rt.alloc(), option)?)?;
             check.push(String::from_str(rt.alloc(), option)?)?;
+            values.push(String::from_str(rt.alloc(), option)?)?;
         }
-        let want = Walk {
+        let want = RunOptions {
             program: "p",
             other: "--input",
             input,
@@ -206,6 +208,11 @@ fn reads_profiles_and_checks(rt: HostRuntime) -> Result<(), Fail> {
         assert_eq!(rt;
             read_command(&check),
             Some(Command::Check(want)),
+            "at {options:?}"
+        );
+        assert_eq!(rt;
+            read_command(&values),
+            Some(Command::Values(want)),
             "at {options:?}"
         );
     }
@@ -245,13 +252,30 @@ fn reads_whether_calls_are_counted(rt: HostRuntime) -> Result<(), Fail> {
     Ok(())
 }
 
-static READS_DISTILLATIONS_CASES: [(&[&str], u32, u64, u32, u32); 5] = [
-    (&[], 10, 2, 200, 4_096),
-    (&["--rare", "0", "--hot", "1"], 0, 1, 200, 4_096),
-    (&["--goal", "1", "--limit", "16"], 10, 2, 1, 16),
-    (&["--limit", "16384", "--rare", "100"], 100, 2, 200, 16_384),
+static READS_DISTILLATIONS_CASES: [(&[&str], Option<&str>, u32, u64, u32, u32); 7] = [
+    (&[], None, 10, 2, 200, 4_096),
+    (&["--values", "v"], Some("v"), 10, 2, 200, 4_096),
+    (&["--rare", "0", "--hot", "1"], None, 0, 1, 200, 4_096),
+    (&["--goal", "1", "--limit", "16"], None, 10, 2, 1, 16),
+    (
+        &["--goal", "1", "--values", "--goal", "--limit", "16"],
+        Some("--goal"),
+        10,
+        2,
+        1,
+        16,
+    ),
+    (
+        &["--limit", "16384", "--rare", "100"],
+        None,
+        100,
+        2,
+        200,
+        16_384,
+    ),
     (
         &["--hot", "1000000000000", "--goal", "65536"],
+        None,
         10,
         1_000_000_000_000,
         65_536,
@@ -261,7 +285,7 @@ static READS_DISTILLATIONS_CASES: [(&[&str], u32, u64, u32, u32); 5] = [
 
 #[test]
 fn reads_distillations(rt: HostRuntime) -> Result<(), Fail> {
-    for &(options, rare, hot, goal, limit) in &READS_DISTILLATIONS_CASES {
+    for &(options, values, rare, hot, goal, limit) in &READS_DISTILLATIONS_CASES {
         let mut words = words_of(rt.alloc(), &["distill", "p", "f", "--rare"])?;
         for option in options {
             words.push(String::from_str(rt.alloc(), option)?)?;
@@ -270,6 +294,7 @@ fn reads_distillations(rt: HostRuntime) -> Result<(), Fail> {
             program: "p",
             profile: "f",
             output: "--rare",
+            values,
             rare,
             hot,
             goal,
@@ -284,7 +309,7 @@ fn reads_distillations(rt: HostRuntime) -> Result<(), Fail> {
     Ok(())
 }
 
-static REFUSES_OTHER_WORDS_CASES: [&[&str]; 83] = [
+static REFUSES_OTHER_WORDS_CASES: [&[&str]; 93] = [
     &[],
     &[""],
     &["run"],
@@ -355,10 +380,20 @@ static REFUSES_OTHER_WORDS_CASES: [&[&str]; 83] = [
     &["certify", "p", "i", "--input", "f"],
     &["certify", "p", "i", "--budget", "1"],
     &["certifies", "p", "i"],
+    &["values", "p"],
+    &["values", "", "o"],
+    &["values", "p", ""],
+    &["values", "p", "o", "--budget", "0"],
+    &["values", "p", "o", "--calls", "1"],
+    &["values", "p", "o", "--values", "v"],
+    &["value", "p", "o"],
     &["distill", "p", "f"],
     &["distill", "", "f", "o"],
     &["distill", "p", "", "o"],
     &["distill", "p", "f", ""],
+    &["distill", "p", "f", "o", "--values"],
+    &["distill", "p", "f", "o", "--values", ""],
+    &["distill", "p", "f", "o", "--values", "v", "--values", "v"],
     &["distill", "p", "f", "o", "--rare", "101"],
     &["distill", "p", "f", "o", "--hot", "0"],
     &["distill", "p", "f", "o", "--hot", "1000000000001"],

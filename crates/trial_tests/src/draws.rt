@@ -71,7 +71,7 @@ static ENDING: [u32; 14] = [
 #[test]
 fn a_number_gives_its_events(rt: HostRuntime) {
     let mut draws = seeded(2, 4);
-    for event in EVENTS {
+    for &event in &EVENTS {
         assert_eq!(rt; draws.next_event(), event);
     }
 }
@@ -89,8 +89,8 @@ fn a_number_makes_its_program(rt: HostRuntime) -> Result<(), Fail> {
         }
         let file = make(rt.alloc(), seed, 1)?;
         assert_eq!(rt; file.len(), 84 + words.len());
-        assert_eq!(rt; &file[84..], words.as_slice());
-        assert_eq!(rt; &file[..4], b"\x7fELF".as_slice());
+        let (start, rest) = (&file[..4], &file[84..]);
+        assert_eq!(rt; (start, rest), (b"\x7fELF".as_slice(), words.as_slice()));
     }
     Ok(())
 }

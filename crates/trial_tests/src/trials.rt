@@ -1,6 +1,6 @@
 //! The command `trial`.
 
-use run_world::outside_world::{Fails, SURE, perform};
+use command_fixtures::outside_world::{Fails, SURE, perform};
 use std::test::Fail;
 
 /// The words of a trial, and lines that it puts in this order.
@@ -75,7 +75,7 @@ static LAST: &str = "squashed 0\ndropped 0\nend exit 0\noutput 24\n";
 
 #[test]
 fn a_trial_is_told_of(rt: HostRuntime) -> Result<(), Fail> {
-    for (words, lines) in CASES {
+    for &(words, lines) in &CASES {
         let left = perform(
             rt.alloc(),
             words,
@@ -83,8 +83,7 @@ fn a_trial_is_told_of(rt: HostRuntime) -> Result<(), Fail> {
             Vec::new(rt.alloc()),
             SURE,
         )?;
-        assert_eq!(rt; left.status, 0);
-        assert!(rt; left.err.is_empty());
+        assert_eq!(rt; (left.status, left.err.is_empty()), (0, true));
         let text = std::str::from_utf8(&left.out).unwrap_or("");
         let mut rest = text;
         for line in lines {

@@ -1,4 +1,4 @@
-//! Words, arithmetic, calls, single instructions and memory, beside values from outside: tests of `rv_word`, `rv_alu`, `rv_run`, `rv_step`
+//! Words, arithmetic, calls, single instructions and memory, beside values from outside: tests of `rv_word`, `rv_alu`, `rv_semantics`, `rv_step`
 //! and `memory`.
 #![tactic(auto)]
 
@@ -7,7 +7,7 @@ mod memory_cases;
 #[cfg(test)]
 mod rv_alu_cases;
 #[cfg(test)]
-mod rv_run_cases;
+mod rv_semantics_cases;
 #[cfg(test)]
 mod rv_step_cases;
 #[cfg(test)]

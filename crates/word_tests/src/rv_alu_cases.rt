@@ -4,7 +4,7 @@ use rv_alu::alu;
 use rv_word::RegOp;
 
 /// The operation, the values of its two registers, and the answer.
-const ANSWERS: [(RegOp, u32, u32, u32); 80] = [
+static ANSWERS: [(RegOp, u32, u32, u32); 80] = [
     (RegOp::Add, 0xffff_ffff, 1, 0),
     (RegOp::Add, 0x8000_0000, 0x8000_0000, 0),
     (RegOp::Add, 0x7fff_ffff, 1, 0x8000_0000),
@@ -89,7 +89,7 @@ const ANSWERS: [(RegOp, u32, u32, u32); 80] = [
 
 #[test]
 fn answers(rt: HostRuntime) {
-    for (op, a, b, want) in ANSWERS {
+    for &(op, a, b, want) in &ANSWERS {
         assert_eq!(rt; alu(op, a, b), want, "{op:?} of {a:08x} and {b:08x}");
     }
 }

@@ -1,64 +1,19 @@
 //! What no clause says: that the calls of an engine succeed, and what events worked out by hand do.
 ghost use Rattle.std.specs.Prelude.{◌≤◌};
 
-use dist_image::read_image;
-use elf_reader::read_elf;
 use engine::{End, Engine, Event, Mode};
 use memory::PlainMemory;
 use seq_machine::{Machine, load};
-use std::alloc::{AllocError, Global};
+use std::alloc::Global;
 use std::process::Abort;
 use std::test::Fail;
+use test_programs::images::{COUNTER, EXIT_7_CALL, REWRITTEN, TEN_TURNS, WRONG_ANCHOR, image};
+use test_programs::programs::{
+    COUNT_WITHOUT_END, EXIT_7, REWRITES_ITSELF, TEN_TURNS_LOOP, program,
+};
 
 /// `MSSP` as a number.
 const MAGIC: u32 = 0x5053_534D;
-
-/// The three steps of a program that exits with 7.
-static EXIT_7: [u32; 3] = [0x00700513, 0x05D00893, 0x00000073];
-
-/// An image that begins at the exit of [`EXIT_7`].
-static AT_THE_EXIT: [u32; 20] = [
-    MAGIC, 1, 16, 2, 1, 1, 0, 2, 0, 0, 0, 0x10008, 0x00000073, 0x10008, 0, 1, 0x10008, 0, 0, 0,
-];
-
-/// A loop of ten turns.
-static TEN_TURNS: [u32; 6] = [
-    0x00A00293, 0xFFF28293, 0xFE029EE3, 0x00000513, 0x05D00893, 0x00000073,
-];
-
-/// An image of [`TEN_TURNS`] whose tasks are two turns long.
-static TWO_TURNS: [u32; 55] = [
-    MAGIC, 1, 64, 7, 1, 6, 0, 0, 0x10000, 0x00A00293, 2, 0, 0, 0, 0x10004, 0xFFF28293, 0, 0x10008,
-    0xFE029EE3, 0, 0x1000C, 0x00000513, 0, 0x10010, 0x05D00893, 0, 0x10014, 0x00000073, 0x10004, 1,
-    2, 0x10000, 0, 0, 0, 0x10004, 1, 0, 0, 0x10008, 3, 0, 0, 0x1000C, 4, 0, 0, 0x10010, 5, 0, 0,
-    0x10014, 6, 0, 0,
-];
-
-/// An image of [`TEN_TURNS`] that takes the loop to be left after its first turn.
-static LEFT_AT_ONCE: [u32; 33] = [
-    MAGIC, 1, 64, 4, 2, 2, 0, 2, 0, 0, 0, 0x10004, 0xFFF28293, 2, 1, 0, 0, 0x10008, 0xFE029EE3,
-    0x10004, 0, 1, 0x1000C, 2, 1, 0x10004, 0, 0, 0, 0x10008, 2, 0, 0,
-];
-
-/// Raises a counter at 0x00020000 without end.
-static COUNTER: [u32; 5] = [0x00020337, 0x00032383, 0x00138393, 0x00732023, 0xFF5FF06F];
-
-/// An image of [`COUNTER`] that leaves the counter out.
-static NO_COUNT: [u32; 32] = [
-    MAGIC, 1, 16, 2, 1, 4, 0, 2, 0, 0, 0, 0x10010, 0xFF5FF06F, 0x10004, 0, 1, 0x10004, 0, 0, 0,
-    0x10008, 1, 0, 0, 0x1000C, 1, 0, 0, 0x10010, 1, 0, 0,
-];
-
-/// Rewrites its fifth instruction, and exits with 9 by the new one.
-static REWRITES_ITSELF: [u32; 8] = [
-    0x00000297, 0x01C2A303, 0x0062A823, 0x05D00893, 0x00700513, 0x00000073, 0x00000000, 0x00900513,
-];
-
-/// An image of [`REWRITES_ITSELF`] that leaves the store out.
-static NO_STORE: [u32; 33] = [
-    MAGIC, 1, 16, 4, 2, 2, 0, 2, 0, 0, 1, 0x1000C, 0, 2, 1, 0, 0, 0x1000C, 0x05D00893, 0x10000, 0,
-    1, 0x1000C, 2, 1, 0x10000, 0, 0, 0, 0x1000C, 2, 0, 0,
-];
 
 /// An image with no table, a jump into nowhere behind a Fork, and a circle that never forks again.
 static NOTHING: [u32; 7] = [MAGIC, 1, 16, 0, 0, 0, 0];
@@ -75,29 +30,9 @@ static IN_A_CIRCLE: [u32; 24] = [
 /// A round over two slaves.
 const ROUND: &str = "rsmmmm01c";
 
-/// The bytes of numbers, the least first in each.
-fn bytes_of(alloc: Global, numbers: &[u32]) -> Result<Vec<u8>, AllocError> {
-    let mut bytes = Vec::new(alloc);
-    for number in numbers {
-        bytes.extend_from_slice(&number.to_le_bytes())?;
-    }
-    Ok(bytes)
-}
-
-/// The file of a program whose words lie at 0x00010000.
-fn file_of(alloc: Global, words: &[u32]) -> Result<Vec<u8>, AllocError> {
-    let size = u32::try_from(words.len().saturating_mul(4)).unwrap_or(u32::MAX);
-    let mut file = vec![in alloc;
-        0x464C457F, 0x00010101, 0, 0, 0x00F30002, 1, 0x00010000, 52, 0, 0, 0x00200034, 1, 0, 1, 84,
-        0x00010000, 0x00010000, size, size, 5, 4,
-    ]?;
-    file.extend_from_slice(words)?;
-    bytes_of(alloc, &file)
-}
-
-/// The machine at the start of such a program.
+/// The machine at the start of the program of these words.
 fn start_of(alloc: Global, words: &[u32]) -> Result<Machine<PlainMemory>, Fail> {
-    let program = read_elf(alloc, &file_of(alloc, words)?)?;
+    let program = program(alloc, words)?;
     Ok(load(alloc, &program, Vec::new(alloc))?)
 }
 
@@ -112,18 +47,18 @@ fn after_steps(alloc: Global, words: &[u32], steps: u64) -> Result<Machine<Plain
     Ok(machine)
 }
 
-/// An engine over such a program and an image.
+/// An engine over such a program and the image of these numbers.
 fn engine_of(
     alloc: Global,
     words: &[u32],
-    image: &[u32],
+    numbers: &[u32],
     slaves: u8,
 ) -> Result<Engine<PlainMemory>, Fail>
     requires some { 1 ≤ slaves }
     requires few { slaves ≤ 64 }
 {
     let machine = start_of(alloc, words)?;
-    let image = read_image(alloc, &bytes_of(alloc, image)?)?;
+    let image = image(alloc, numbers)?;
     if machine.position != 0 || machine.end.is_some() {
         return Err("the machine is not at the start")?;
     }
@@ -153,32 +88,34 @@ fn effects(alloc: Global, engine: &mut Engine<PlainMemory>, events: &str) -> Res
 }
 
 /// Events, tasks, their steps, serial steps, squashes and dropped tasks.
-fn counted(engine: &Engine<PlainMemory>) -> [u64; 6] {
+type Counted = [u64; 6];
+
+/// What an engine counted, and the position and the end of what is committed.
+fn stand(engine: &Engine<PlainMemory>) -> (Counted, u64, Option<End>) {
     let c = engine.counts();
-    [
+    let counted = [
         c.events, c.tasks, c.by_tasks, c.serial, c.squashed, c.dropped,
-    ]
+    ];
+    let committed = engine.committed();
+    (counted, committed.position, committed.end)
 }
 
 #[test]
 fn idle_while_serial(rt: HostRuntime) -> Result<(), Fail> {
     let alloc = rt.alloc();
-    let mut engine = engine_of(alloc, &TEN_TURNS, &TWO_TURNS, 64)?;
+    let mut engine = engine_of(alloc, &TEN_TURNS_LOOP, &TEN_TURNS, 64)?;
     let told = effects(alloc, &mut engine, "c0m")?;
     assert_eq!(rt; told.as_str(), "Idle; Idle; Idle; ");
-    assert_eq!(rt; counted(&engine), [3, 0, 0, 0, 0, 0]);
-    assert_eq!(rt; engine.committed().position, 0);
-    assert_eq!(rt; engine.committed().end, None);
-    assert_eq!(rt; engine.mode(), Mode::Serial { debt: false });
-    assert_eq!(rt; engine.live(), 0);
-    assert_eq!(rt; engine.image().limit, 64);
+    assert_eq!(rt; stand(&engine), ([3, 0, 0, 0, 0, 0], 0, None));
+    let idle = (engine.mode(), engine.live(), engine.image().limit);
+    assert_eq!(rt; idle, (Mode::Serial { debt: false }, 0, 64));
     Ok(())
 }
 
 #[test]
 fn two_turns_are_committed(rt: HostRuntime) -> Result<(), Fail> {
     let alloc = rt.alloc();
-    let mut engine = engine_of(alloc, &TEN_TURNS, &TWO_TURNS, 4)?;
+    let mut engine = engine_of(alloc, &TEN_TURNS_LOOP, &TEN_TURNS, 4)?;
     let told = effects(alloc, &mut engine, "rsr0000cmmmmmm")?;
     assert_eq!(rt;
         told.as_str(),
@@ -186,18 +123,15 @@ fn two_turns_are_committed(rt: HostRuntime) -> Result<(), Fail> {
          Committed { steps: 4, dropped: 0 }; Moved; Moved; Moved; Moved; Moved; \
          Forked(1); "
     );
-    assert_eq!(rt; counted(&engine), [14, 1, 4, 1, 0, 0]);
-    assert_eq!(rt; engine.committed().position, 5);
-    assert_eq!(rt; engine.committed().end, None);
-    assert_eq!(rt; engine.mode(), Mode::Speculating);
-    assert_eq!(rt; engine.live(), 1);
+    assert_eq!(rt; stand(&engine), ([14, 1, 4, 1, 0, 0], 5, None));
+    assert_eq!(rt; (engine.mode(), engine.live()), (Mode::Speculating, 1));
     Ok(())
 }
 
 #[test]
 fn a_wrong_pc_is_squashed(rt: HostRuntime) -> Result<(), Fail> {
     let alloc = rt.alloc();
-    let mut engine = engine_of(alloc, &TEN_TURNS, &LEFT_AT_ONCE, 2)?;
+    let mut engine = engine_of(alloc, &TEN_TURNS_LOOP, &WRONG_ANCHOR, 2)?;
     let told = effects(alloc, &mut engine, "sr00mmc111crssr")?;
     assert_eq!(rt;
         told.as_str(),
@@ -206,32 +140,28 @@ fn a_wrong_pc_is_squashed(rt: HostRuntime) -> Result<(), Fail> {
          Squashed(Differ { cell: Pc, predicted: 65548, found: 65540 }); Idle; Stepped; \
          Stepped; Started(65540); "
     );
-    assert_eq!(rt; counted(&engine), [15, 1, 2, 3, 1, 0]);
-    assert_eq!(rt; engine.committed().position, 5);
-    assert_eq!(rt; engine.committed().end, None);
+    assert_eq!(rt; stand(&engine), ([15, 1, 2, 3, 1, 0], 5, None));
     Ok(())
 }
 
 #[test]
 fn a_call_is_met_and_not_committed(rt: HostRuntime) -> Result<(), Fail> {
     let alloc = rt.alloc();
-    let mut engine = engine_of(alloc, &EXIT_7, &AT_THE_EXIT, 1)?;
+    let mut engine = engine_of(alloc, &EXIT_7, &EXIT_7_CALL, 1)?;
     let told = effects(alloc, &mut engine, "ssr0crs")?;
     assert_eq!(rt;
         told.as_str(),
         "Stepped; Stepped; Started(65544); Done(Met); \
          Committed { steps: 0, dropped: 0 }; Idle; Ended(Exit(7)); "
     );
-    assert_eq!(rt; counted(&engine), [7, 1, 0, 3, 0, 0]);
-    assert_eq!(rt; engine.committed().position, 3);
-    assert_eq!(rt; engine.committed().end, Some(End::Exit(7)));
+    assert_eq!(rt; stand(&engine), ([7, 1, 0, 3, 0, 0], 3, Some(End::Exit(7))));
     Ok(())
 }
 
 #[test]
 fn a_wrong_byte_is_squashed(rt: HostRuntime) -> Result<(), Fail> {
     let alloc = rt.alloc();
-    let mut engine = engine_of(alloc, &COUNTER, &NO_COUNT, 2)?;
+    let mut engine = engine_of(alloc, &COUNT_WITHOUT_END, &COUNTER, 2)?;
     let told = effects(alloc, &mut engine, "srmm11110000cc")?;
     assert_eq!(rt;
         told.as_str(),
@@ -240,16 +170,14 @@ fn a_wrong_byte_is_squashed(rt: HostRuntime) -> Result<(), Fail> {
          Committed { steps: 4, dropped: 0 }; \
          Squashed(Differ { cell: Byte(131072), predicted: 0, found: 1 }); "
     );
-    assert_eq!(rt; counted(&engine), [14, 1, 4, 1, 1, 0]);
-    assert_eq!(rt; engine.committed().position, 5);
-    assert_eq!(rt; engine.committed().end, None);
+    assert_eq!(rt; stand(&engine), ([14, 1, 4, 1, 1, 0], 5, None));
     Ok(())
 }
 
 #[test]
 fn a_rewritten_instruction_is_squashed(rt: HostRuntime) -> Result<(), Fail> {
     let alloc = rt.alloc();
-    let mut engine = engine_of(alloc, &REWRITES_ITSELF, &NO_STORE, 2)?;
+    let mut engine = engine_of(alloc, &REWRITES_ITSELF, &REWRITTEN, 2)?;
     let told = effects(alloc, &mut engine, "rmm111000ccsss")?;
     assert_eq!(rt;
         told.as_str(),
@@ -258,39 +186,38 @@ fn a_rewritten_instruction_is_squashed(rt: HostRuntime) -> Result<(), Fail> {
          Squashed(Differ { cell: Byte(65554), predicted: 112, found: 144 }); Stepped; \
          Stepped; Ended(Exit(9)); "
     );
-    assert_eq!(rt; counted(&engine), [14, 1, 3, 3, 1, 0]);
-    assert_eq!(rt; engine.committed().position, 6);
-    assert_eq!(rt; engine.committed().end, Some(End::Exit(9)));
+    assert_eq!(rt;
+        stand(&engine),
+        ([14, 1, 3, 3, 1, 0], 6, Some(End::Exit(9)))
+    );
     Ok(())
 }
 
 #[test]
 fn a_master_is_lost(rt: HostRuntime) -> Result<(), Fail> {
     let alloc = rt.alloc();
-    let mut engine = engine_of(alloc, &TEN_TURNS, &INTO_NOWHERE, 2)?;
+    let mut engine = engine_of(alloc, &TEN_TURNS_LOOP, &INTO_NOWHERE, 2)?;
     let told = effects(alloc, &mut engine, "srmm")?;
     assert_eq!(rt;
         told.as_str(),
         "Stepped; Started(65540); Halted(Lost); Idle; "
     );
-    assert_eq!(rt; counted(&engine), [4, 0, 0, 1, 0, 0]);
-    assert_eq!(rt; engine.committed().position, 1);
-    assert_eq!(rt; engine.committed().end, None);
+    assert_eq!(rt; stand(&engine), ([4, 0, 0, 1, 0, 0], 1, None));
     Ok(())
 }
 
 /// Sixty rounds over two slaves leave the machine where as many steps of the program alone do.
-fn runs_as_alone(alloc: Global, rt: &impl Abort, image: &[u32]) -> Result<(), Fail> {
-    let mut engine = engine_of(alloc, &TEN_TURNS, image, 2)?;
+fn runs_as_alone(alloc: Global, rt: &impl Abort, numbers: &[u32]) -> Result<(), Fail> {
+    let mut engine = engine_of(alloc, &TEN_TURNS_LOOP, numbers, 2)?;
     for _ in 0..60 {
         let _told = effects(alloc, &mut engine, ROUND)?;
     }
     let committed = engine.committed();
-    let alone = after_steps(alloc, &TEN_TURNS, committed.position)?;
-    assert!(rt; committed.position >= 16);
-    assert_eq!(rt; committed.arch.pc, alone.arch.pc);
-    assert_eq!(rt; committed.arch.regs, alone.arch.regs);
-    assert_eq!(rt; committed.end, alone.end);
+    let alone = after_steps(alloc, &TEN_TURNS_LOOP, committed.position)?;
+    let is_same = committed.arch.regs == alone.arch.regs;
+    assert_eq!(rt; (committed.position >= 16, is_same), (true, true));
+    let stands = (committed.arch.pc, committed.end);
+    assert_eq!(rt; stands, (alone.arch.pc, alone.end));
     Ok(())
 }
 
@@ -300,5 +227,5 @@ fn hostile_images_change_nothing(rt: HostRuntime) -> Result<(), Fail> {
     runs_as_alone(alloc, &rt, &NOTHING)?;
     runs_as_alone(alloc, &rt, &INTO_NOWHERE)?;
     runs_as_alone(alloc, &rt, &IN_A_CIRCLE)?;
-    runs_as_alone(alloc, &rt, &LEFT_AT_ONCE)
+    runs_as_alone(alloc, &rt, &WRONG_ANCHOR)
 }

@@ -1,8 +1,8 @@
 //! Commands whose bytes and statuses are known from outside.
 
-use run_world::outside_world::{Fails, SURE, perform};
-use run_world::programs::*;
+use command_fixtures::outside_world::{Fails, SURE, perform};
 use std::test::Fail;
+use test_programs::programs::*;
 
 const RUN: &[&str] = &["run", "p"];
 

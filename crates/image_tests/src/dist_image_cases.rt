@@ -5,8 +5,9 @@ use dist_image::{
     Anchor, Assumption, ImageErr, Note, Slot, Table, anchor_at, empty_image, read_image, slot_of,
     write_image,
 };
-use std::alloc::{AllocError, Global};
 use std::test::Fail;
+use test_programs::images::TEN_TURNS;
+use test_programs::programs::bytes_of;
 
 /// One anchor: a fork, and an ECALL that the note's task goes on to.
 static ONE_ANCHOR: [u8; 80] = [
@@ -17,82 +18,14 @@ static ONE_ANCHOR: [u8; 80] = [
     0x08, 0x00, 0x01, 0x00, 0x00, 0x00, 0x00, 0x00, 0x00, 0x00, 0x00, 0x00, 0x00, 0x00, 0x00, 0x00,
 ];
 
-/// The bytes of numbers, the lowest byte of each first.
-pub(crate) fn bytes_of(alloc: Global, numbers: &[u32]) -> Result<Vec<u8>, AllocError> {
-    let mut bytes = Vec::new(alloc);
-    for number in numbers {
-        bytes.extend_from_slice(&number.to_le_bytes())?;
-    }
-    Ok(bytes)
-}
-
 /// The text `MSSP`.
 pub(crate) const MAGIC: u32 = 0x5053_534D;
 
-/// The hand image of a loop of ten turns, as numbers.
-static TEN_TURNS: [u32; 55] = [
-    MAGIC,
-    1,
-    64,
-    7,
-    1,
-    6,
-    0, //
-    0,
-    0x1_0000,
-    0x00A0_0293,
-    2,
-    0,
-    0,
-    0,
-    0x1_0004,
-    0xFFF2_8293,
-    0,
-    0x1_0008,
-    0xFE02_9EE3, //
-    0,
-    0x1_000C,
-    0x0000_0513,
-    0,
-    0x1_0010,
-    0x05D0_0893,
-    0,
-    0x1_0014,
-    0x0000_0073, //
-    0x1_0004,
-    1,
-    2, //
-    0x1_0000,
-    0,
-    0,
-    0,
-    0x1_0004,
-    1,
-    0,
-    0,
-    0x1_0008,
-    3,
-    0,
-    0, //
-    0x1_000C,
-    4,
-    0,
-    0,
-    0x1_0010,
-    5,
-    0,
-    0,
-    0x1_0014,
-    6,
-    0,
-    0,
-];
-
 #[test]
-fn reads_and_writes_one_anchor(rt: HostRuntime) -> Result<(), Fail> {
+fn reads_one_anchor(rt: HostRuntime) -> Result<(), Fail> {
     let image = read_image(rt.alloc(), &ONE_ANCHOR)?;
-    assert_eq!(rt; (image.version, image.limit), (1, 16));
-    assert_eq!(rt; image.writes.len(), 0);
+    let counts = (image.assumptions.len(), image.writes.len());
+    assert_eq!(rt; (image.version, image.limit, counts), (1, 16, (0, 0)));
     let exec = Slot::Exec {
         origin: 0x1_0008,
         word: 0x73,
@@ -112,17 +45,19 @@ fn reads_and_writes_one_anchor(rt: HostRuntime) -> Result<(), Fail> {
         image.slots.as_slice(),
         [Slot::Fork { anchor: 0 }, exec].as_slice()
     );
-    assert_eq!(rt; image.anchors.as_slice(), [anchor].as_slice());
-    assert_eq!(rt; image.notes.as_slice(), [note].as_slice());
-    assert_eq!(rt; image.assumptions.len(), 0);
     assert_eq!(rt;
-        (slot_of(&image, 0x1_0008), slot_of(&image, 0)),
-        (Some(0), None)
+        (image.anchors.as_slice(), image.notes.as_slice()),
+        ([anchor].as_slice(), [note].as_slice())
     );
-    assert_eq!(rt;
-        (anchor_at(&image, 0x1_0008), anchor_at(&image, 4)),
-        (Some(0), None)
-    );
+    Ok(())
+}
+
+#[test]
+fn finds_and_writes_one_anchor(rt: HostRuntime) -> Result<(), Fail> {
+    let image = read_image(rt.alloc(), &ONE_ANCHOR)?;
+    let slots = (slot_of(&image, 0x1_0008), slot_of(&image, 0));
+    let anchors = (anchor_at(&image, 0x1_0008), anchor_at(&image, 4));
+    assert_eq!(rt; (slots, anchors), ((Some(0), None), (Some(0), None)));
     let bytes = write_image(rt.alloc(), &image)?;
     assert_eq!(rt; bytes.as_slice(), ONE_ANCHOR.as_slice());
     Ok(())
@@ -132,8 +67,8 @@ fn reads_and_writes_one_anchor(rt: HostRuntime) -> Result<(), Fail> {
 fn reads_ten_turns(rt: HostRuntime) -> Result<(), Fail> {
     let mut bytes = bytes_of(rt.alloc(), &TEN_TURNS)?;
     let image = read_image(rt.alloc(), &bytes)?;
-    assert_eq!(rt; slot_of(&image, 0x1_000C), Some(4));
-    assert_eq!(rt; anchor_at(&image, 0x1_0004), Some(0));
+    let found = (slot_of(&image, 0x1_000C), anchor_at(&image, 0x1_0004));
+    assert_eq!(rt; found, (Some(4), Some(0)));
     let whole = bytes.len();
     for length in 0..whole {
         let answer = read_image(rt.alloc(), &bytes[..length]);
@@ -141,6 +76,11 @@ fn reads_ten_turns(rt: HostRuntime) -> Result<(), Fail> {
     }
     bytes.push(0)?;
     assert_eq!(rt; read_image(rt.alloc(), &bytes).err(), Some(ImageErr::Long));
+    Ok(())
+}
+
+#[test]
+fn refuses_notes_that_are_exchanged(rt: HostRuntime) -> Result<(), Fail> {
     let mut exchanged = TEN_TURNS;
     exchanged[31] = 0x1_0004;
     exchanged[32] = 1;
@@ -277,53 +217,61 @@ fn answers_the_first_refusal(rt: HostRuntime) -> Result<(), Fail> {
     Ok(())
 }
 
+/// One slot, and an assumption of each kind of version 1.
+static LISTS_ALL: [u32; 36] = [
+    MAGIC,
+    1,
+    16_384,
+    1,
+    0,
+    0,
+    6,
+    1,
+    4,
+    0,
+    0,
+    8,
+    1,
+    0,
+    1,
+    4,
+    0,
+    2,
+    0,
+    0xFFFF_FFFC,
+    2,
+    8,
+    0,
+    0,
+    3,
+    0,
+    0,
+    0,
+    4,
+    0,
+    0,
+    0,
+    5,
+    0,
+    0,
+    0,
+];
+
 #[test]
 fn reads_and_writes_assumptions(rt: HostRuntime) -> Result<(), Fail> {
-    let numbers = [
-        MAGIC,
-        1,
-        16_384,
-        1,
-        0,
-        0,
-        6,
-        1,
-        4,
-        0,
-        0,
-        8,
-        1,
-        0,
-        1,
-        4,
-        0,
-        2,
-        0,
-        0xFFFF_FFFC,
-        2,
-        8,
-        0,
-        0,
-        3,
-        0,
-        0,
-        0,
-        4,
-        0,
-        0,
-        0,
-        5,
-        0,
-        0,
-        0,
-    ];
-    let bytes = bytes_of(rt.alloc(), &numbers)?;
+    let bytes = bytes_of(rt.alloc(), &LISTS_ALL)?;
     let image = read_image(rt.alloc(), &bytes)?;
     let first = image.assumptions.first();
-    assert!(rt; matches!(first, Some(Assumption::Cut { at: 8, taken: true })));
-    assert!(rt; matches!(image.assumptions.last(), Some(Assumption::Span)));
+    let is_cut = matches!(first, Some(Assumption::Cut { at: 8, taken: true }));
+    let is_span = matches!(image.assumptions.last(), Some(Assumption::Span));
+    assert_eq!(rt; (is_cut, is_span), (true, true));
     let written = write_image(rt.alloc(), &image)?;
     assert_eq!(rt; written.as_slice(), bytes.as_slice());
+    Ok(())
+}
+
+#[test]
+fn writes_the_empty_image(rt: HostRuntime) -> Result<(), Fail> {
     let nothing = write_image(rt.alloc(), &empty_image(rt.alloc()))?;
     let want = bytes_of(rt.alloc(), &[MAGIC, 1, 16, 0, 0, 0, 0])?;
     assert_eq!(rt; nothing.as_slice(), want.as_slice());

@@ -1,11 +1,11 @@
 //! `run` with a report: beside images, made by hand or hostile, and without one.
 
-use run_world::hostile_images::*;
-use run_world::images::*;
-use run_world::outside_world::{Fails, Files, Left, SURE, perform_over};
-use run_world::programs::*;
+use command_fixtures::outside_world::{Fails, Files, Left, SURE, perform_over};
 use std::alloc::{AllocError, Global};
 use std::test::Fail;
+use test_programs::hostile_images::*;
+use test_programs::images::*;
+use test_programs::programs::*;
 
 const BESIDE: &[&str] = &["run", "p", "--image", "m", "--report", "r"];
 

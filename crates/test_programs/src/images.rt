@@ -1,7 +1,9 @@
 //! Images, as the numbers of four bytes of their files.
+ghost use Rattle.std.specs.Prelude.{IfOk};
+ghost use Rattle.dist_image.specs.Image.{IsImage};
 
 use crate::programs::bytes_of;
-use dist_image::{ImageErr, read_image, write_image};
+use dist_image::{Image, ImageErr, read_image, write_image};
 use std::alloc::Global;
 
 /// By hand, for a loop of ten turns.
@@ -73,8 +75,15 @@ within
 span
 ";
 
-/// The file that is written for the image of these numbers.
+/// The image of these numbers.
+pub fn image(alloc: Global, numbers: &[u32]) -> Result<Image, ImageErr>
+    ensures { IfOk result IsImage }
+{
+    read_image(alloc, &bytes_of(alloc, numbers)?)
+}
+
+/// The file that is written for it.
 pub fn written(alloc: Global, numbers: &[u32]) -> Result<Vec<u8>, ImageErr> {
-    let image = read_image(alloc, &bytes_of(alloc, numbers)?)?;
+    let image = image(alloc, numbers)?;
     Ok(write_image(alloc, &image)?)
 }

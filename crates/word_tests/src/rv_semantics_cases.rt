@@ -1,5 +1,5 @@
 //! What calls ask for, by the numbers in their registers.
-use rv_run::{is_output, is_short_write};
+use rv_semantics::{is_output, is_short_write};
 
 #[test]
 fn outputs(rt: HostRuntime) {

@@ -1,10 +1,10 @@
 //! `replay`, over programs, images made by hand and lists of events.
 
-use run_world::images::*;
-use run_world::outside_world::{Fails, Files, Left, SURE, perform_over};
-use run_world::programs::*;
+use command_fixtures::outside_world::{Fails, Files, Left, SURE, perform_over};
 use std::alloc::{AllocError, Global};
 use std::test::Fail;
+use test_programs::images::*;
+use test_programs::programs::*;
 
 const REPLAY: &[&str] = &["replay", "p", "m", "e"];
 

@@ -1,10 +1,10 @@
 //! `show`, over images that are accepted and refused.
 
-use run_world::images::*;
-use run_world::outside_world::{Fails, SURE, perform};
-use run_world::programs::bytes_of;
+use command_fixtures::outside_world::{Fails, SURE, perform};
 use std::alloc::Global;
 use std::test::Fail;
+use test_programs::images::*;
+use test_programs::programs::bytes_of;
 
 const SHOW: &[&str] = &["show", "p"];
 

@@ -8,6 +8,8 @@ use memory::PlainMemory;
 use rv_step::{Arch, Flow, Memory, View, step};
 use std::alloc::{AllocError, Global};
 use std::test::Fail;
+use test_programs::images::{TEN_TURNS, image as image_of};
+use test_programs::programs::TEN_TURNS_LOOP;
 
 /// A slot as the format has it: its kind and two numbers.
 type SlotNumbers = (u32, u32, u32);
@@ -55,23 +57,13 @@ fn put_all(bytes: &mut Vec<u8>, numbers: &[u32]) -> Result<(), AllocError> {
     Ok(())
 }
 
-/// The program of ten turns, from 0x00010000 on.
-const TEN_TURNS: [u32; 6] = [
-    0x00a0_0293,
-    0xfff2_8293,
-    0xfe02_9ee3,
-    0x0000_0513,
-    0x05d0_0893,
-    0x0000_0073,
-];
-
 const TURN: u32 = 0x1_0004;
 
 // The program's state after its first step.
 fn turning(alloc: Global) -> Result<Arch<PlainMemory>, AllocError> {
     let mut mem = PlainMemory::empty(alloc)?;
     let mut at = 0x1_0000;
-    for word in TEN_TURNS {
+    for &word in &TEN_TURNS_LOOP {
         mem.put_word(alloc, at, word)?;
         at = at.wrapping_add(4);
     }
@@ -94,45 +86,24 @@ const TWO_TURNS: Anchor = Anchor {
     count: 2,
 };
 
-fn turns(alloc: Global) -> Result<Image, ImageErr>
-    ensures { IfOk result IsImage }
-{
-    let slots = [
-        exec(0x1_0000, 0x00a0_0293),
-        FORK,
-        exec(0x1_0004, 0xfff2_8293),
-        exec(0x1_0008, 0xfe02_9ee3),
-        exec(0x1_000c, 0x0000_0513),
-        exec(0x1_0010, 0x05d0_0893),
-        exec(0x1_0014, 0x0000_0073),
-    ];
-    let notes = [
-        (0x1_0000, 0),
-        (0x1_0004, 1),
-        (0x1_0008, 3),
-        (0x1_000c, 4),
-        (0x1_0010, 5),
-        (0x1_0014, 6),
-    ];
-    image(alloc, 64, &slots, TWO_TURNS, &notes)
-}
-
 #[test]
 fn spawns_at_the_second_arrival(rt: HostRuntime) -> Result<(), Fail> {
     let alloc = rt.alloc();
-    let image = turns(alloc)?;
+    let image = image_of(alloc, &TEN_TURNS)?;
     let mut master = Master::begin(alloc, &TWO_TURNS, &turning(alloc)?)?;
     for _ in 0..5 {
-        assert_eq!(rt; master.next_spawn(&image), None);
-        assert_eq!(rt; master.advance(alloc, &image, true)?, MasterDid::Moved);
+        let before = master.next_spawn(&image);
+        let did = master.advance(alloc, &image, true)?;
+        assert_eq!(rt; (before, did), (None, MasterDid::Moved));
     }
     for _ in 0..2 {
-        assert_eq!(rt; master.next_spawn(&image), Some(0));
-        assert_eq!(rt; master.advance(alloc, &image, false)?, MasterDid::Stalled);
+        let before = master.next_spawn(&image);
+        let did = master.advance(alloc, &image, false)?;
+        assert_eq!(rt; (before, did), (Some(0), MasterDid::Stalled));
     }
-    assert_eq!(rt; master.advance(alloc, &image, true)?, MasterDid::Spawned(0));
-    assert_eq!(rt; master.next_spawn(&image), None);
-    assert_eq!(rt; master.regs()[5], 8);
+    let did = master.advance(alloc, &image, true)?;
+    let after = (did, master.next_spawn(&image), master.regs()[5]);
+    assert_eq!(rt; after, (MasterDid::Spawned(0), None, 8));
     Ok(())
 }
 
@@ -144,7 +115,7 @@ const FIRST: Anchor = Anchor {
 };
 
 /// What a word does at 0x00010004, where that is the one pc with a note.
-const HALTS: [(u32, Why); 8] = [
+static HALTS: [(u32, Why); 8] = [
     // ECALL
     (0x0000_0073, Why::Call),
     // EBREAK, two words without a meaning, and JAL to a pc that is no multiple of 4
@@ -162,15 +133,15 @@ const HALTS: [(u32, Why); 8] = [
 #[test]
 fn halts_and_is_as_it_was(rt: HostRuntime) -> Result<(), Fail> {
     let alloc = rt.alloc();
-    for (word, why) in HALTS {
+    for &(word, why) in &HALTS {
         let image = image(alloc, 16, &[FORK, exec(TURN, word)], FIRST, &[(TURN, 0)])?;
         let mut master = Master::begin(alloc, &FIRST, &turning(alloc)?)?;
         for _ in 0..2 {
             let did = master.advance(alloc, &image, true)?;
             assert_eq!(rt; did, MasterDid::Halted(why), "{word:08x}");
         }
-        assert_eq!(rt; master.regs()[5], 10, "{word:08x}");
-        assert_eq!(rt; master.mem().word(10), 0, "{word:08x}");
+        let left = (master.regs()[5], master.mem().word(10));
+        assert_eq!(rt; left, (10, 0), "{word:08x}");
     }
     Ok(())
 }
@@ -209,9 +180,9 @@ fn spends_its_slots(rt: HostRuntime) -> Result<(), Fail> {
         for _ in 0..68 {
             assert_eq!(rt; master.advance(alloc, &image, false)?, MasterDid::Moved);
         }
-        assert_eq!(rt; master.next_spawn(&image), None);
+        let next = master.next_spawn(&image);
         let did = master.advance(alloc, &image, false)?;
-        assert_eq!(rt; did, MasterDid::Halted(Why::Spent));
+        assert_eq!(rt; (next, did), (None, MasterDid::Halted(Why::Spent)));
     }
     Ok(())
 }
@@ -234,10 +205,10 @@ fn works_at_the_origin_on_its_own_memory(rt: HostRuntime) -> Result<(), Fail> {
     for _ in 0..3 {
         assert_eq!(rt; master.advance(alloc, &image, true)?, MasterDid::Moved);
     }
-    assert_eq!(rt; master.regs()[5], 0x2_0000);
-    assert_eq!(rt; master.regs()[6], 0x2_0000);
-    assert_eq!(rt; master.mem().word(0x2_0000), 0x2_0000);
-    assert_eq!(rt; arch.mem.word(0x2_0000), 0);
-    assert_eq!(rt; master.next_spawn(&image), Some(0));
+    let registers = (master.regs()[5], master.regs()[6]);
+    assert_eq!(rt; registers, (0x2_0000, 0x2_0000));
+    let words = (master.mem().word(0x2_0000), arch.mem.word(0x2_0000));
+    let next = master.next_spawn(&image);
+    assert_eq!(rt; (words, next), ((0x2_0000, 0), Some(0)));
     Ok(())
 }

@@ -1,12 +1,12 @@
 //! What no clause says: that the calls of a shadow succeed, and what they answer at borders of words.
 
+use access_trace::{ByteRange, Shadow};
 use memory::PlainMemory;
-use memory_access::{Shadow, Span};
 use std::alloc::{AllocError, Global};
 use std::test::Fail;
 
-fn span(count: u32, from: u32) -> Span {
-    Span { count, from }
+fn span(count: u32, from: u32) -> ByteRange {
+    ByteRange { count, from }
 }
 
 fn marks(shadow: &Shadow<PlainMemory>, from: u32) -> [u32; 8] {

@@ -1,86 +1,18 @@
 //! What no clause says: that tasks begin and go on where memory is ample, and what they come to on small programs whose
 //! steps were worked out by hand.
-ghost use Rattle.std.specs.Prelude.{IfOk};
 ghost use Rattle.dist_image.specs.Image.{IsImage, IsAnchor};
 
 use cells::{Cell, Differ};
-use dist_image::{Anchor, Image, read_image};
+use dist_image::{Anchor, Image};
 use memory::PlainMemory;
 use rv_step::{Arch, Flow, Memory, View, step};
 use slave::{Ending, SlaveDid, Task};
 use std::alloc::{AllocError, Global};
 use std::test::Fail;
+use test_programs::images::{TEN_TURNS, image};
+use test_programs::programs::TEN_TURNS_LOOP;
 
 pub const START: u32 = 0x1_0000;
-
-/// Counts x5 down from 10, and exits.
-const TEN_TURNS: [u32; 6] = [
-    0x00a0_0293,
-    0xfff2_8293,
-    0xfe02_9ee3,
-    0x0000_0513,
-    0x05d0_0893,
-    0x0000_0073,
-];
-
-/// Its image: the head of the loop is an anchor, and a task has two turns.
-static TURNS: [u32; 55] = [
-    0x5053_534d,
-    1,
-    64,
-    7,
-    1,
-    6,
-    0, //
-    0,
-    0x1_0000,
-    0x00a0_0293,
-    2,
-    0,
-    0,
-    0,
-    0x1_0004,
-    0xfff2_8293,
-    0,
-    0x1_0008,
-    0xfe02_9ee3, //
-    0,
-    0x1_000c,
-    0x0000_0513,
-    0,
-    0x1_0010,
-    0x05d0_0893,
-    0,
-    0x1_0014,
-    0x0000_0073, //
-    0x1_0004,
-    1,
-    2, //
-    0x1_0000,
-    0,
-    0,
-    0,
-    0x1_0004,
-    1,
-    0,
-    0,
-    0x1_0008,
-    3,
-    0,
-    0, //
-    0x1_000c,
-    4,
-    0,
-    0,
-    0x1_0010,
-    5,
-    0,
-    0,
-    0x1_0014,
-    6,
-    0,
-    0,
-];
 
 /// An image with the limit 16 and one anchor, of count 1, at the start.
 static ONE_ANCHOR: [u32; 13] = [
@@ -110,17 +42,6 @@ pub const FIRST: Anchor = Anchor {
     slot: 0,
     count: 1,
 };
-
-/// The image of these numbers.
-pub fn image(alloc: Global, numbers: &[u32]) -> Result<Image, Fail>
-    ensures { IfOk result IsImage }
-{
-    let mut bytes = Vec::new(alloc);
-    for number in numbers {
-        bytes.extend_from_slice(&number.to_le_bytes())?;
-    }
-    Ok(read_image(alloc, &bytes)?)
-}
 
 fn put_word(alloc: Global, s: &mut Arch<PlainMemory>, a: u32, word: u32) -> Result<(), AllocError> {
     s.mem.put_word(alloc, a, word)
@@ -152,7 +73,7 @@ fn go_on(alloc: Global, s: &mut Arch<PlainMemory>) -> Result<(), AllocError> {
 
 /// The state of the ten turns after so many steps.
 fn turns_after(alloc: Global, steps: u32) -> Result<Arch<PlainMemory>, AllocError> {
-    let mut s = start(alloc, &TEN_TURNS)?;
+    let mut s = start(alloc, &TEN_TURNS_LOOP)?;
     for _ in 0..steps {
         go_on(alloc, &mut s)?;
     }
@@ -192,7 +113,7 @@ pub fn events(
 
 /// The task of the ten turns that begins after one step, once it is done.
 fn turned(alloc: Global) -> Result<Task<PlainMemory>, Fail> {
-    let image = image(alloc, &TURNS)?;
+    let image = image(alloc, &TEN_TURNS)?;
     let s = turns_after(alloc, 1)?;
     let mut task = begun(alloc, &HEAD, &s)?;
     events(alloc, &mut task, &image)?;
@@ -218,7 +139,7 @@ pub fn differ(cell: Cell, predicted: u32, found: u32) -> Option<Differ> {
 
 #[test]
 fn two_turns_are_reached(rt: HostRuntime) -> Result<(), Fail> {
-    let image = image(rt.alloc(), &TURNS)?;
+    let image = image(rt.alloc(), &TEN_TURNS)?;
     let s = turns_after(rt.alloc(), 1)?;
     let mut task = begun(rt.alloc(), &HEAD, &s)?;
     let answers = events(rt.alloc(), &mut task, &image)?;
@@ -286,12 +207,12 @@ fn no_other_register_is_recorded(rt: HostRuntime) -> Result<(), Fail> {
 }
 
 /// The bytes of the two words of the loop, from 0x00010004 on.
-const FETCHED: [u8; 8] = [0x93, 0x82, 0xf2, 0xff, 0xe3, 0x9e, 0x02, 0xfe];
+static FETCHED: [u8; 8] = [0x93, 0x82, 0xf2, 0xff, 0xe3, 0x9e, 0x02, 0xfe];
 
 #[test]
 fn the_fetched_bytes_are_recorded(rt: HostRuntime) -> Result<(), Fail> {
     let mut at = 0x1_0004;
-    for byte in FETCHED {
+    for &byte in &FETCHED {
         let told = told_but(rt.alloc(), But::Byte(at, 0x55))?;
         assert_eq!(rt;
             told,
@@ -319,8 +240,8 @@ fn its_writes_are_applied(rt: HostRuntime) -> Result<(), Fail> {
     let mut out = Vec::new(rt.alloc());
     task.view().apply(rt.alloc(), task.pc(), &mut s, &mut out)?;
     let wanted = turns_after(rt.alloc(), 5)?;
-    assert_eq!(rt; (s.pc, s.regs[5]), (0x1_0004, 8));
-    assert!(rt; s.pc == wanted.pc && s.regs == wanted.regs);
+    let is_so = s.pc == wanted.pc && s.regs == wanted.regs;
+    assert_eq!(rt; (s.pc, s.regs[5], is_so), (0x1_0004, 8, true));
     for at in 0x1_0000..0x1_0020 {
         assert_eq!(rt; s.mem.get(at), wanted.mem.get(at), "at {at:08x}");
     }

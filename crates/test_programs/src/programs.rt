@@ -1,5 +1,8 @@
 //! Guest programs, as the words that lie at 0x00010000, and the files that hold them.
+ghost use Rattle.std.specs.Prelude.{IfOk};
+ghost use Rattle.elf_reader.specs.Executable.{IsProgram};
 
+use elf_reader::{ElfErr, Program, read_elf};
 use std::alloc::{AllocError, Global};
 
 /// Exits with 7.
@@ -137,4 +140,11 @@ pub fn framed(alloc: Global, words: &[u32]) -> Result<Vec<u32>, AllocError> {
 /// The bytes of that file.
 pub fn frame(alloc: Global, words: &[u32]) -> Result<Vec<u8>, AllocError> {
     bytes_of(alloc, &framed(alloc, words)?)
+}
+
+/// The program of that file.
+pub fn program(alloc: Global, words: &[u32]) -> Result<Program, ElfErr>
+    ensures { IfOk result IsProgram }
+{
+    read_elf(alloc, &frame(alloc, words)?)
 }

@@ -1,8 +1,9 @@
 //! Images of version 2 as bytes, both ways, and each refusal.
 
-use crate::dist_image_cases::{MAGIC, bytes_of};
+use crate::dist_image_cases::MAGIC;
 use dist_image::{Assumption, ImageErr, Slot, Table, prints_at, read_image, write_image};
 use std::test::Fail;
+use test_programs::programs::bytes_of;
 
 /// A task that begins at 00010000, and may print at 00010014.
 static ONE_WRITE: [u32; 22] = [
@@ -154,7 +155,19 @@ static PRINTS_ONCE: [u32; 90] = [
 fn reads_and_writes_one_write(rt: HostRuntime) -> Result<(), Fail> {
     let bytes = bytes_of(rt.alloc(), &ONE_WRITE)?;
     let image = read_image(rt.alloc(), &bytes)?;
-    assert_eq!(rt; (image.version, image.limit), (2, 16));
+    let prints = (prints_at(&image, 0x1_0014), prints_at(&image, 0x1_0000));
+    let written = write_image(rt.alloc(), &image)?;
+    assert_eq!(rt; (prints, written.len()), ((true, false), 88));
+    assert_eq!(rt; written.as_slice(), bytes.as_slice());
+    Ok(())
+}
+
+#[test]
+fn reads_one_write(rt: HostRuntime) -> Result<(), Fail> {
+    let bytes = bytes_of(rt.alloc(), &ONE_WRITE)?;
+    let image = read_image(rt.alloc(), &bytes)?;
+    let count = image.assumptions.len();
+    assert_eq!(rt; (image.version, image.limit, count), (2, 16, 0));
     let exec = Slot::Exec {
         origin: 0x1_0014,
         word: 0x73,
@@ -163,15 +176,7 @@ fn reads_and_writes_one_write(rt: HostRuntime) -> Result<(), Fail> {
         image.slots.as_slice(),
         [Slot::Fork { anchor: 0 }, exec].as_slice()
     );
-    assert_eq!(rt; image.assumptions.len(), 0);
     assert_eq!(rt; image.writes.as_slice(), [0x1_0014].as_slice());
-    assert_eq!(rt;
-        (prints_at(&image, 0x1_0014), prints_at(&image, 0x1_0000)),
-        (true, false)
-    );
-    let written = write_image(rt.alloc(), &image)?;
-    assert_eq!(rt; written.len(), 88);
-    assert_eq!(rt; written.as_slice(), bytes.as_slice());
     Ok(())
 }
 
@@ -212,35 +217,37 @@ fn each_front_of_a_file_is_short(rt: HostRuntime) -> Result<(), Fail> {
     Ok(())
 }
 
+/// Two loads of one value.
+static ONE_VALUE_EACH: [u32; 24] = [
+    MAGIC,
+    2,
+    4_096,
+    0,
+    0,
+    0,
+    4,
+    0,
+    3,
+    0,
+    0,
+    0,
+    5,
+    0,
+    0,
+    0,
+    6,
+    0x1_0008,
+    0,
+    0,
+    6,
+    0x1_000C,
+    0xFFFF_FF80,
+    0,
+];
+
 #[test]
 fn reads_and_writes_loads_of_one_value(rt: HostRuntime) -> Result<(), Fail> {
-    let numbers = [
-        MAGIC,
-        2,
-        4_096,
-        0,
-        0,
-        0,
-        4,
-        0, //
-        3,
-        0,
-        0,
-        0, //
-        5,
-        0,
-        0,
-        0, //
-        6,
-        0x1_0008,
-        0,
-        0, //
-        6,
-        0x1_000C,
-        0xFFFF_FF80,
-        0,
-    ];
-    let bytes = bytes_of(rt.alloc(), &numbers)?;
+    let bytes = bytes_of(rt.alloc(), &ONE_VALUE_EACH)?;
     let image = read_image(rt.alloc(), &bytes)?;
     let last = image.assumptions.last();
     assert!(rt;

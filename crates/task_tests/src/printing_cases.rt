@@ -1,11 +1,12 @@
 //! What no clause says: what tasks that print come to on programs of one or two words whose calls were worked out by hand.
-use crate::slave_cases::{FIRST, START, begun, differ, events, image, stand, start, told};
+use crate::slave_cases::{FIRST, START, begun, differ, events, stand, start, told};
 use cells::{Cell, Differ};
 use memory::PlainMemory;
 use rv_step::{Arch, Memory};
 use slave::{Ending, Task};
 use std::alloc::{AllocError, Global};
 use std::test::Fail;
+use test_programs::images::image;
 
 const ECALL: u32 = 0x0000_0073;
 
@@ -170,9 +171,10 @@ fn other_calls_are_met(rt: HostRuntime) -> Result<(), Fail> {
     for call in [long, to_input, exit] {
         let task = done(rt.alloc(), &[ECALL], call)?;
         assert_eq!(rt; stand(&task), (0, 0, START, Some(Ending::Met)));
-        assert!(rt; task.view().output().is_empty());
-        assert_eq!(rt; told_byte(rt.alloc(), &[ECALL], call, 0x2_0000)?, None);
-        assert_eq!(rt; register_told_otherwise(rt.alloc(), call)?, None);
+        let is_silent = task.view().output().is_empty();
+        let told = told_byte(rt.alloc(), &[ECALL], call, 0x2_0000)?;
+        let otherwise = register_told_otherwise(rt.alloc(), call)?;
+        assert_eq!(rt; (is_silent, told, otherwise), (true, None, None));
     }
     Ok(())
 }
@@ -185,10 +187,11 @@ fn a_byte_of_its_own_is_shown_and_not_recorded(rt: HostRuntime) -> Result<(), Fa
     let task = done(rt.alloc(), &words, call)?;
     assert_eq!(rt; stand(&task), (0, 2, START + 8, Some(Ending::Met)));
     assert_eq!(rt; task.view().output(), b"Ai".as_slice());
-    assert_eq!(rt; told_byte(rt.alloc(), &words, call, 0x2_0000)?, None);
+    let own = told_byte(rt.alloc(), &words, call, 0x2_0000)?;
+    let other = told_byte(rt.alloc(), &words, call, 0x2_0001)?;
     assert_eq!(rt;
-        told_byte(rt.alloc(), &words, call, 0x2_0001)?,
-        differ(Cell::Byte(0x2_0001), 0x69, 0x55)
+        (own, other),
+        (None, differ(Cell::Byte(0x2_0001), 0x69, 0x55))
     );
     Ok(())
 }
