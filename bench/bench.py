@@ -33,8 +33,8 @@ committed, and of how many of them tasks took care.
 prints the seconds of each command beside those of `run`.  Then it distils programs without
 a branch, at whose last instruction a register is read that none of the others touches: as
 many rounds of masks as there are instructions.  With --callgrind it counts the host
-instructions of `run`, `profile` and `check` for each guest instruction instead, and those of
-`run` and `profile` for loops that do hardly anything but load, or store, bytes, halves or
+instructions of `run`, `profile`, `check` and `values` for each guest instruction instead, and
+those of `run`, `profile` and `values` for loops that do hardly anything but load, or store, bytes, halves or
 words that a store wrote, and words across two words of memory.
 
 --hostile gives large files and programs that do little else than look up: `check` beside an
@@ -376,17 +376,18 @@ def show_distilling(binary, programs, runs):
 
 def show_distilling_instructions(binary, programs):
     print("host instructions for each guest instruction, by callgrind")
-    print(f"{'':16}" + "".join(f"{name:>14}" for name in ("run", "profile", "of run", "check", "of run")))
+    print(f"{'':16}" + "".join(f"{name:>14}" for name in ("run", "profile", "of run", "check", "of run", "values", "of run")))
     with tempfile.TemporaryDirectory() as folder:
-        profile, image = (os.path.join(folder, name) for name in ("profile", "image"))
+        profile, image, values = (os.path.join(folder, name) for name in ("profile", "image", "values"))
         for program in programs:
             subprocess.run([binary, "profile", program.file, profile], check=True)
             subprocess.run([binary, "distill", program.file, profile, image, "--rare", "0"], check=True)
             run = for_each([binary, "run", program.file])
             profiled = for_each([binary, "profile", program.file, profile], 0)
             checked = for_each([binary, "check", program.file, image], 0)
+            found = for_each([binary, "values", program.file, values], 0)
             print(f"{program.name:16}{run:14.1f}{profiled:14.1f}{profiled / run:14.2f}"
-                  f"{checked:14.1f}{checked / run:14.2f}", flush=True)
+                  f"{checked:14.1f}{checked / run:14.2f}{found:14.1f}{found / run:14.2f}", flush=True)
         file = os.path.join(folder, "elf")
         loops = {"bytes": (1, 0), "halves": (2, 0), "words": (4, 0), "across words": (4, 1)}
         for touch in (load, store):
@@ -394,7 +395,9 @@ def show_distilling_instructions(binary, programs):
                 Path(file).write_bytes(touching_loop(touch, size, start))
                 run = for_each([binary, "run", file])
                 profiled = for_each([binary, "profile", file, profile], 0)
-                print(f"{f'{touch.__name__} {name}':20}{run:10.1f}{profiled:14.1f}{profiled / run:14.2f}", flush=True)
+                found = for_each([binary, "values", file, values], 0)
+                print(f"{f'{touch.__name__} {name}':20}{run:10.1f}{profiled:14.1f}{profiled / run:14.2f}"
+                      f"{'':28}{found:14.1f}{found / run:14.2f}", flush=True)
 
 
 def image_of(anchors, notes, assumptions, limit=64):

@@ -16,7 +16,7 @@
 #
 # Each case is also profiled, distilled with nothing rare cut, shown, checked, and run beside its
 # image: with the same answer, and where the check says that the run meets what the image assumes,
-# with no task squashed or dropped.
+# with no task squashed or dropped. The same again with the values of its loads, as constants.
 #
 # A profile is written where its name leads: over its program too, but neither onto a folder nor into
 # one that isn't there.
@@ -159,12 +159,17 @@ speculates() {
   fi
 }
 
-# the case NAME is profiled, distilled, shown and checked, and answers the same beside its image
+# the case NAME is profiled, distilled, shown and checked, and answers the same beside its image; with `values` loads of
+# one value are constants in it
 distils() {
-  local program=bin/${1%%-*}.elf input=input/$1.in words=() verdict
+  local program=bin/${1%%-*}.elf input=input/$1.in words=() with=() verdict
   [ -f "$input" ] && words+=(--input "$input")
+  if [ "$2" = values ]; then
+    "$binary" values "$program" "$room/values" "${words[@]}" </dev/null || { echo "FAILED $1: no values of it"; return 1; }
+    with=(--values "$room/values")
+  fi
   if ! "$binary" profile "$program" "$room/profile" "${words[@]}" </dev/null ||
-    ! "$binary" distill "$program" "$room/profile" "$room/image" --rare 0 </dev/null ||
+    ! "$binary" distill "$program" "$room/profile" "$room/image" --rare 0 "${with[@]}" </dev/null ||
     ! "$binary" show "$room/image" </dev/null >"$room/shown"; then
     echo "FAILED $1: no image of it"
     return 1
@@ -205,6 +210,7 @@ if [ -n "$binary" ]; then
   for file in expected/*.status; do
     name=$(basename "$file" .status)
     if distils "$name"; then pass "$name beside its image"; else failed=$((failed + 1)); fi
+    if distils "$name" values; then pass "$name beside its image with values"; else failed=$((failed + 1)); fi
   done
   for name in lazy kept; do
     if speculates "$name"; then pass "replay and run with $name.img"; else failed=$((failed + 1)); fi

@@ -8,6 +8,8 @@ registers are live and needed, and lists what it assumes: it fits the program.
 
 `countdown` prints the digits from 9 down, each on a line of its own.
 
+`setting` adds, in each of 100 turns, the entry of a table that a setting names.
+
 The files are committed; this script says what is in them.
 """
 
@@ -48,6 +50,26 @@ COUNTDOWN = [
     0x00000513,  # 00010030        addi x10, x0, 0
     0x05D00893,  # 00010034        addi x17, x0, 93
     0x00000073,  # 00010038        ecall
+]
+
+SETTING = [
+    0x000102B7,  # 00010000        lui  x5, 0x10         what follows the code is at 00010030
+    0x06400413,  # 00010004        addi x8, x0, 100      turns
+    0x0302A303,  # 00010008  head: lw   x6, 48(x5)       the setting
+    0x00231393,  # 0001000c        slli x7, x6, 2
+    0x005383B3,  # 00010010        add  x7, x7, x5
+    0x0343A383,  # 00010014        lw   x7, 52(x7)       the entry of the table that it names
+    0x007484B3,  # 00010018        add  x9, x9, x7
+    0xFFF40413,  # 0001001c        addi x8, x8, -1
+    0xFE0414E3,  # 00010020        bne  x8, x0, head
+    0x00048513,  # 00010024        addi x10, x9, 0       the exit code
+    0x05D00893,  # 00010028        addi x17, x0, 93
+    0x00000073,  # 0001002c        ecall
+    2,  # 00010030                 the setting
+    5,  # 00010034                 the table
+    7,
+    11,
+    13,
 ]
 
 
@@ -117,6 +139,7 @@ def main():
     FOLDER.joinpath("lazy.img").write_bytes(lazy())
     FOLDER.joinpath("sure.img").write_bytes(sure())
     FOLDER.joinpath("countdown.elf").write_bytes(elf(COUNTDOWN))
+    FOLDER.joinpath("setting.elf").write_bytes(elf(SETTING))
 
 
 if __name__ == "__main__":
