@@ -130,11 +130,11 @@ fn a_load_becomes_a_constant_and_is_checked(rt: HostRuntime) -> Result<(), Fail>
     assert_eq!(rt; fits.out.as_slice(), b"fits\n".as_slice());
     let met = told(alloc, "check", &ONE_VALUE, image.clone()?, "")?;
     assert_eq!(rt; met.out.as_slice(), b"met 45\n".as_slice());
-    // the value, which ends the file, is 1
-    for _ in 0..4 {
+    // the value, behind which the number of targets ends the file, is 1
+    for _ in 0..8 {
         image.pop();
     }
-    image.extend_from_slice(&1u32.to_le_bytes())?;
+    image.extend_from_slice(&[1, 0, 0, 0, 0, 0, 0, 0])?;
     let broken = told(alloc, "check", &ONE_VALUE, image, "")?;
     assert_eq!(rt; broken.status, 1);
     assert_eq!(rt;
@@ -175,10 +175,13 @@ fn values_of_no_analysed_load_play_no_part(rt: HostRuntime) -> Result<(), Fail> 
     let rows = [MAGIC, 1, 3, 0x10000, 5, 0x10008, 0, 0x20000, 0];
     let others = image_with(alloc, &FOUR_LOADS, "", bytes_of(alloc, &rows)?)?;
     assert!(rt; without == others);
-    // a load that may be listed is
+    // nor does a load that nothing needs, but one that is needed does
     let rows = [MAGIC, 1, 1, 0x1000C, 0xFFFF_FFFF];
-    let listed = image_with(alloc, &FOUR_LOADS, "", bytes_of(alloc, &rows)?)?;
-    assert!(rt; without != listed);
+    let unneeded = image_with(alloc, &FOUR_LOADS, "", bytes_of(alloc, &rows)?)?;
+    assert!(rt; without == unneeded);
+    let unset = image_with(alloc, &ONE_VALUE, "", bytes_of(alloc, &[MAGIC, 1, 0])?)?;
+    let set = image_with(alloc, &ONE_VALUE, "", bytes_of(alloc, &ONE_VALUE_ROWS)?)?;
+    assert!(rt; unset != set);
     Ok(())
 }
 
