@@ -18,10 +18,8 @@ ghost use Rattle.distiller.specs.Given.{loads, AreGiven};
 
 mod error;
 mod given;
-mod words;
 
 use crate::given::given_cuts;
-use crate::words::has_words;
 use dist_image::Image;
 use elf_reader::Program;
 pub use error::DistillErr;
@@ -98,7 +96,7 @@ pub fn distill_same(
     ensures some { IfOk result (λ image. analysed f.now.rows ≢ []) }
     ensures empty { IsErrOf result DistillErr.Empty → analysed f.now.rows ≡ [] }
 {
-    has_words(p);
+    p.has_words();
     let c = given_cuts(alloc, p, f, o.rare, same)?;
     let g = graph(alloc, p, f, &c)?;
     if g.spots.is_empty() {

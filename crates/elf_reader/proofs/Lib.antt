@@ -4,3 +4,4 @@ pub mod Faults
 pub mod Parts
 pub mod Accepted
 pub mod Memory
+pub mod Small

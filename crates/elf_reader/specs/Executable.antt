@@ -1,6 +1,7 @@
 -- What an executable file says of a run: where it begins, what lies in memory, and where the break is.
-use Rattle.std.specs.Prelude.{◌≡◌, ℕ, ◌+◌, ◌-◌, ◌*◌, ◌/◌, ◌%◌, ◌≤◌, nat_lt, nat_le, ◌&&◌, Bool, if◌then◌else◌, List, length, slice_index, Option, Some, None, fold, map, max, unwrap_or, All}
+use Rattle.std.specs.Prelude.{◌≡◌, ℕ, ◌+◌, ◌-◌, ◌*◌, ◌/◌, ◌%◌, ◌^◌, ◌<◌, ◌≤◌, nat_lt, nat_le, ◌&&◌, Bool, if◌then◌else◌, List, length, get_or, slice_index, Option, Some, None, fold, map, max, unwrap_or, All}
 use Rattle.std.specs.List.{reduce}
+use Rattle.cells.specs.Bytes.{word_of}
 
 -- a part of memory: its first address, its bytes, and how many zeros follow them
 pub record Segment : Type 0 where
@@ -29,6 +30,18 @@ byte_in part a = if covers part a then Some (slice_index part.bytes (a - part.at
 -- The memory that the parts make, one laid over the other. An address has the byte of the last part that covers it, and 0 where none does.
 abbrev pub memory_of : List Segment → ℕ → ℕ
 memory_of parts a = fold (λ below part. unwrap_or (byte_in part a) below) 0 parts
+
+-- each is a byte
+abbrev pub AreBytes : List ℕ → Type 0
+AreBytes bytes = (i : ℕ) → get_or bytes i 0 < 256
+
+-- each part has bytes
+abbrev pub HaveBytes : List Segment → Type 0
+HaveBytes parts = All (λ part. AreBytes part.bytes) parts
+
+-- each word of the memory that a program begins with has 32 bits
+abbrev pub HasWords : Executable → Type 0
+HasWords program = (pc : ℕ) → word_of (memory_of program.parts) pc < 2 ^ 32
 
 -- the first multiple of 4096 that isn't below n
 abbrev pub page_end : ℕ → ℕ

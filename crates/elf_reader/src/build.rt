@@ -2,7 +2,7 @@
 
 ghost use Rattle.std.specs.Prelude.{◌≡◌, ◌≤◌, ◌+◌, length, map, max, unwrap_or, IfOk, All, None};
 ghost use Rattle.std.specs.List.{reduce};
-ghost use Rattle.elf_reader.specs.Executable.{end_of, first_break_of};
+ghost use Rattle.elf_reader.specs.Executable.{end_of, first_break_of, AreBytes};
 ghost use Rattle.elf_reader.specs.Header.{program_headers};
 ghost use Rattle.elf_reader.specs.Refusal.{first_that_stands, faults, HasTable};
 ghost use Rattle.elf_reader.specs.Accepted.{segment, segments};
@@ -13,6 +13,11 @@ use std::alloc::{AllocError, Global};
 
 /// The size of a page: the break begins at a multiple of it.
 const PAGE: u32 = 4096;
+
+/// The bytes of a file are below 256: contracts see them as numbers. Does nothing.
+pub(crate) fn are_bytes(file: &[u8])
+    ensures { AreBytes file.now }
+{}
 
 /// The parts of an accepted file, in the order of their headers.
 pub(crate) fn parts_of(

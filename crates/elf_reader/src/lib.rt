@@ -17,7 +17,7 @@ mod header;
 mod program;
 
 use crate::acceptance::accept;
-use crate::build::{first_break, parts_of};
+use crate::build::{are_bytes, first_break, parts_of};
 pub use error::ElfErr;
 pub use program::{Part, Program, word_at};
 use std::alloc::Global;
@@ -43,6 +43,7 @@ pub fn read_elf(alloc: Global, bytes: &[u8]) -> Result<Program, ElfErr>
     let header = accept(bytes)?;
     let parts = parts_of(alloc, bytes, &header)?;
     let first_break = first_break(&parts);
+    are_bytes(bytes);
     Ok(Program {
         entry: header.e_entry,
         parts,

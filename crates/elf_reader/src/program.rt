@@ -2,7 +2,7 @@
 
 ghost use Rattle.std.specs.Prelude.{◌≡◌, ◌≤◌};
 ghost use Rattle.cells.specs.Bytes.{word_of};
-ghost use Rattle.elf_reader.specs.Executable.{end_of, byte_in, memory_of};
+ghost use Rattle.elf_reader.specs.Executable.{end_of, byte_in, memory_of, HasWords};
 
 use std::marker::Model;
 
@@ -38,11 +38,24 @@ pub struct Program {
 }
 
 impl Model for Program {
-    ghost use Rattle.elf_reader.specs.Executable.{Executable};
+    ghost use Rattle.elf_reader.specs.Executable.{Executable, HaveBytes};
 
     ghost Value = { Executable };
 
     ghost view = { λ program. record { entry = program.entry; parts = program.parts.items; first_break = program.first_break } };
+
+    // Contracts see the parts as lists of numbers, which are bytes.
+    ghost invariant = { λ program. HaveBytes program.parts.items };
+}
+
+impl Program {
+    /// Each word of the memory that a program begins with has 32 bits, since each byte of it has 8.
+    /// Does nothing: it is called where a proof needs that.
+    pub fn has_words(&self)
+        ensures { HasWords self.now }
+    {
+        let _ = &self.parts;
+    }
 }
 
 impl Part {

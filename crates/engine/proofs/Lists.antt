@@ -16,11 +16,11 @@ use Rattle.slave.specs.Task.{Shown, IsTaskOf}
 use Rattle.engine.specs.Shown.{AreTasksOf, younger}
 
 -- no task runs on the slave
-pub none_goes : {X : Type 0} (g : X → Task) (w : World) (j : ℕ) (xs : List X) (none : (k : ℕ) (d : X) → k < length xs → is_run_by w j (g (get_or xs k d)) ≡ false)
+pub none_goes : {X : Type 0} (g : X → Task) (w : World) (j : ℕ) (xs : List X) (none : (k : ℕ) (d : X) → k < length xs → is_run_by w.slaves j (g (get_or xs k d)) ≡ false)
     → (slave_told w j (map g xs) ≡ Idle) × (slave_tasks w j (map g xs) ≡ map g xs)
 none_goes g w j [] none = (refl, refl)
 none_goes g w j (x ∷ xs) none =
-    let here : is_run_by w j (g x) ≡ false = none 0 x (omega arith) in
+    let here : is_run_by w.slaves j (g x) ≡ false = none 0 x (omega arith) in
     let later = none_goes g w j xs (λ k d l. none (suc k) d (omega (arith, l))) in (
       ap (λ b. cond b (told_task (advance w (g x)).ending) (slave_told w j (map g xs))) here ∙ later.0,
       ap (λ b. cond b (advance w (g x) ∷ map g xs) (g x ∷ slave_tasks w j (map g xs))) here ∙ ap (λ l. g x ∷ l) later.1,
@@ -28,7 +28,7 @@ none_goes g w j (x ∷ xs) none =
 
 -- the first that runs on the slave goes on
 pub first_goes : {X : Type 0} (g : X → Task) (w : World) (j : ℕ) (xs : List X) (i : ℕ) (d : X) → i < length xs
-    → is_run_by w j (g (get_or xs i d)) ≡ true → ((k : ℕ) → k < i → is_run_by w j (g (get_or xs k d)) ≡ false)
+    → is_run_by w.slaves j (g (get_or xs i d)) ≡ true → ((k : ℕ) → k < i → is_run_by w.slaves j (g (get_or xs k d)) ≡ false)
     → (slave_told w j (map g xs) ≡ told_task (advance w (g (get_or xs i d))).ending) × (slave_tasks w j (map g xs) ≡ set (map g xs) i (advance w (g (get_or xs i d))))
 first_goes g w j [] i d l runs before = absurd (omega (arith, l))
 first_goes g w j (x ∷ xs) zero d l runs before = (
@@ -36,7 +36,7 @@ first_goes g w j (x ∷ xs) zero d l runs before = (
   ap (λ b. cond b (advance w (g x) ∷ map g xs) (g x ∷ slave_tasks w j (map g xs))) runs,
 )
 first_goes g w j (x ∷ xs) (suc i) d l runs before =
-    let here : is_run_by w j (g x) ≡ false = before 0 (omega arith) in
+    let here : is_run_by w.slaves j (g x) ≡ false = before 0 (omega arith) in
     let later = first_goes g w j xs i d (omega (arith, l)) runs (λ k b. before (suc k) (omega (arith, b))) in (
       ap (λ b. cond b (told_task (advance w (g x)).ending) (slave_told w j (map g xs))) here ∙ later.0,
       ap (λ b. cond b (advance w (g x) ∷ map g xs) (g x ∷ slave_tasks w j (map g xs))) here ∙ ap (λ t. g x ∷ t) later.1,

@@ -16,7 +16,7 @@ use Rattle.speculation.specs.Engine.{told_task, slave_told, slave_tasks, going_o
 use Rattle.dist_image.specs.Image.{Distilled}
 use Rattle.image_semantics.specs.World.{world}
 use Rattle.slave.specs.Task.{Shown as TaskShown, modelled as task_modelled, IsTaskOf}
-use Rattle.engine.specs.Shown.{Shown, modelled, tasks_modelled, Does, Happens, MayTake, IsCostly, is_run_by}
+use Rattle.engine.specs.Shown.{Shown, modelled, tasks_modelled, Does, Happens, MayTake, IsCostly, is_shown_run_by}
 use Rattle.engine.proofs.Lists.{none_goes, first_goes}
 
 -- a running task has a step left
@@ -28,12 +28,12 @@ pub has_room : (start : State) (image : Distilled) (k : TaskShown) → IsTaskOf 
 has_room start image k h e = room_by (world start image 1) (task_modelled k) k.ending e (h start 1).task.ended
 
 module _ (image : Distilled) (slaves : ℕ) (s : Shown) (j : ℕ) where
-  pub does_rest : ((k : ℕ) (d : TaskShown) → k < length s.tasks → is_run_by slaves j (get_or s.tasks k d) ≡ false) → Does image slaves (event.Slave j) s Idle s
+  pub does_rest : ((k : ℕ) (d : TaskShown) → k < length s.tasks → is_shown_run_by slaves j (get_or s.tasks k d) ≡ false) → Does image slaves (event.Slave j) s Idle s
   does_rest none start c =
       let h = none_goes task_modelled (world start image slaves) j s.tasks none in
       λ i. (sym h.0 i, record (modelled s c) { tasks = sym h.1 i })
 
-  module _ (i : ℕ) (d : TaskShown) (l : i < length s.tasks) (runs : is_run_by slaves j (get_or s.tasks i d) ≡ true) (before : (k : ℕ) → k < i → is_run_by slaves j (get_or s.tasks k d) ≡ false) where
+  module _ (i : ℕ) (d : TaskShown) (l : i < length s.tasks) (runs : is_shown_run_by slaves j (get_or s.tasks i d) ≡ true) (before : (k : ℕ) → k < i → is_shown_run_by slaves j (get_or s.tasks k d) ≡ false) where
     pub does_run : (y : TaskShown) (f : Effect) → ((start : State) → task_modelled y ≡ advance (world start image slaves) (task_modelled (get_or s.tasks i d))) → f ≡ told_task y.ending
         → Does image slaves (event.Slave j) s f (record s { tasks = set s.tasks i y })
     does_run y f next told start c =

@@ -8,7 +8,7 @@ use Rattle.std.proofs.lemmas.List.{length-map}
 use Rattle.std.proofs.lemmas.List.Sums.{position_or_len_is}
 use Rattle.speculation.specs.Kept.{AreNumbered}
 use Rattle.slave.specs.Task.{Shown, modelled as task_modelled}
-use Rattle.engine.specs.Shown.{is_run_by, place_of}
+use Rattle.engine.specs.Shown.{is_shown_run_by, place_of}
 
 -- the first place that passes, and where none does
 pub position_at : {X : Type 0} (p : X → Bool) (xs : List X) (i : ℕ) (d : X) → i < length xs → p (get_or xs i d) ≡ true → ((k : ℕ) → k < i → p (get_or xs k d) ≡ false) → position p xs ≡ Some i
@@ -98,7 +98,7 @@ few_live g (x ∷ xs) next h =
 -- tasks xs with consecutive numbers, the oldest of number f, on s slaves
 module _ {X : Type 0} (g : X → Shown) (s j next f : ℕ) (xs : List X) (few : length xs ≤ s) (numbers : AreNumbered next (map task_modelled (map g xs))) (first : f + length xs ≡ next) where
   abbrev runs : X → Bool
-  runs t = is_run_by s j (g t)
+  runs t = is_shown_run_by s j (g t)
 
   abbrev place : ℕ
   place = place_of s f j

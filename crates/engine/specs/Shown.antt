@@ -1,5 +1,5 @@
 -- What contracts see of the engine's stage, and what an event does to it.
-use Rattle.std.specs.Prelude.{◌≡◌, ℕ, ◌+◌, ◌-◌, ◌%◌, Bool, true, cond, not, ◌&&◌, nat_eq, nat_le, List, [], ◌∷◌, length, map, Option, Some, None, is_some}
+use Rattle.std.specs.Prelude.{◌≡◌, ℕ, ◌+◌, ◌-◌, ◌%◌, Bool, true, cond, nat_le, List, [], ◌∷◌, length, map, Option, Some, None}
 use Rattle.std.specs.Option.{option_map}
 use Rattle.cells.specs.Cells.{value}
 use Rattle.cells.specs.Run.{State, is_over}
@@ -12,7 +12,7 @@ use Rattle.speculation.specs.declared.Event.{Event}
 use Rattle.speculation.specs.declared.Mode.{Mode}
 use Rattle.speculation.specs.declared.Mode.TheVariants.{Serial, Speculating}
 use Rattle.speculation.specs.World.{Master}
-use Rattle.speculation.specs.Task.{Task}
+use Rattle.speculation.specs.Task.{Task, is_run_by}
 use Rattle.speculation.specs.Engine.{Model, going_on}
 use Rattle.memory.specs.declared.Memory.{Ghosts}
 use Rattle.dist_image.specs.declared.image.Anchor.{Anchor}
@@ -123,8 +123,8 @@ IsSerial (Serial debt) = Unit {0}
 IsSerial Speculating = ⊥
 
 -- a slave runs the task whose number is its own modulo the number of slaves
-abbrev pub is_run_by : ℕ → ℕ → TaskShown → Bool
-is_run_by slaves slave k = nat_eq (k.number % slaves) slave && not (is_some k.ending)
+abbrev pub is_shown_run_by : (slaves slave : ℕ) → TaskShown → Bool
+is_shown_run_by slaves slave k = is_run_by slaves slave (task_modelled k)
 
 -- on s slaves, how far behind the oldest task, whose number is f, the task of slave j stands
 abbrev pub place_of : ℕ → ℕ → ℕ → ℕ

@@ -7,7 +7,7 @@ ghost use Rattle.speculation.specs.Engine.{told_end, told_task, dropped_by};
 ghost use Rattle.layers.specs.Layered.{laid};
 ghost use Rattle.seq_machine.specs.States.{state_of, did_of as step_told};
 ghost use Rattle.slave.specs.Task.{shown as task_shown, did_of as task_told};
-ghost use Rattle.engine.specs.Shown.{is_run_by, place_of};
+ghost use Rattle.engine.specs.Shown.{is_shown_run_by, place_of};
 
 use crate::stage::Stage;
 use cells::End;
@@ -106,7 +106,7 @@ impl<M: Memory> Stage<M> {
     fn runner(&self, slave: u8) -> Option<usize>
         requires few { length self.now.tasks.items ≤ self.now.slaves }
         requires numbers { AreNumbered self.now.next (tasks_modelled (shown M.at self.now).tasks) }
-        ensures { result ≡ position (λ t. is_run_by self.now.slaves slave (task_shown M.at t)) self.now.tasks.items }
+        ensures { result ≡ position (λ t. is_shown_run_by self.now.slaves slave (task_shown M.at t)) self.now.tasks.items }
     {
         if self.slaves <= slave {
             return None;

@@ -2,8 +2,10 @@
 use Rattle.std.proofs.Common.{sym, ◌∙◌, subst}
 use Rattle.std.proofs.lemmas.Result.{err_from_is_err_and}
 use Rattle.elf_reader.specs.Executable.{IsProgram}
+use Rattle.elf_reader.specs.Header.{program_headers}
 use Rattle.elf_reader.proofs.Accepted.{is_program, program_is, parts_end}
 use Rattle.elf_reader.proofs.Memory.{refusal-never_memory}
+use Rattle.elf_reader.proofs.Small.{have_bytes}
 use Rattle.elf_reader.proofs.Rows.{passes_all, header_fits}
 use Rattle.elf_reader.proofs.read_elf.Goals as goal
 
@@ -31,3 +33,6 @@ pub returns-clause-program : goal.returns-clause-program
 returns-clause-program c =
     let is = program_is c.args.bytes.now c.in_ok-header.header _ _ c.in_ok-header.ensures.header c.in_ok-parts.ensures (rw c.deref.ensures.value at c.first_break-first_break.ensures) in
     subst IsProgram (sym is) (is_program c.args.bytes.now c.in_ok-header.ensures.refused)
+
+pub invariant_of-result : goal.invariant_of-result
+invariant_of-result c = rw c.in_ok-parts.ensures (have_bytes c.args.bytes.now (program_headers c.args.bytes.now c.in_ok-header.header) c.are_bytes.ensures)

@@ -14,7 +14,7 @@ use Rattle.seq_machine.specs.States.{state_of}
 use Rattle.slave.proofs.Keeps.{on_err}
 use Rattle.slave.specs.Task.{Shown as TaskShown, modelled as task_modelled, IsTaskOf}
 use Rattle.slave.specs.Task.{shown as task_shown}
-use Rattle.engine.specs.Shown.{shown, is_run_by, AreTasksOf}
+use Rattle.engine.specs.Shown.{shown, is_shown_run_by, AreTasksOf}
 use Rattle.engine.proofs.Sets.{Task-set}
 use Rattle.engine.proofs.Lists.{none_passes, running, none_of, task_at, tasks_set}
 use Rattle.engine.proofs.Masters.{does_by}
@@ -49,7 +49,7 @@ none_is f p (x ∷ xs) found k d l =
 pub advance-requires-clause-running : goal.advance-requires-clause-running
 advance-requires-clause-running g c =
     let f = task_shown g.M.Memory.at in
-    let h = first_is f (is_run_by c.args.self.now.slaves c.args.slave) c.args.self.now.tasks.items c.in-Some.place c.index_mut.result.now c.in-Some.ensures c.index_mut.ensures.value in
+    let h = first_is f (is_shown_run_by c.args.self.now.slaves c.args.slave) c.args.self.now.tasks.items c.in-Some.place c.index_mut.result.now c.in-Some.ensures c.index_mut.ensures.value in
     running _ c.index_mut.result.now.ending h.passes
 
 pub advance-requires-clause-room : goal.advance-requires-clause-room
@@ -59,7 +59,7 @@ advance-requires-clause-room g c =
     let image = c.args.self.now.image in
     let x = c.index_mut.result.now in
     let ks = (shown at c.args.self.now).tasks in
-    let h = first_is f (is_run_by c.args.self.now.slaves c.args.slave) c.args.self.now.tasks.items c.in-Some.place x c.in-Some.ensures c.index_mut.ensures.value in
+    let h = first_is f (is_shown_run_by c.args.self.now.slaves c.args.slave) c.args.self.now.tasks.items c.in-Some.place x c.in-Some.ensures c.index_mut.ensures.value in
     ∥∥₁_elim c.requires.tasks le_prop
     (λ known. has_room (state_of at c.args.self.now.machine) image (f x) (subst (IsTaskOf image) (h.item (f x)) (task_at image ks c.in-Some.place (f x) known h.within)) (none_of x.ending (running _ x.ending h.passes)))
 
@@ -78,7 +78,7 @@ returns-in_err-did-in-Some-clause-sure g c =
     let at = g.M.Memory.at in
     let f = task_shown at in
     let x = c.index_mut.result.now in
-    let p = is_run_by c.args.self.now.slaves c.args.slave in
+    let p = is_shown_run_by c.args.self.now.slaves c.args.slave in
     let h = first_is f p c.args.self.now.tasks.items c.in-Some.place x c.in-Some.ensures c.index_mut.ensures.value in
     on_err c.from_residual.result
     (costly_run c.args.self.now.image c.args.self.now.slaves (shown at c.args.self.now) c.args.slave c.in-Some.place (f x) h.within (ap p (h.item (f x)) ∙ h.passes) (λ k l. h.before k (f x) l))
@@ -87,7 +87,7 @@ pub returns-in-None-clause-ok : goal.returns-in-None-clause-ok
 returns-in-None-clause-ok g c =
     let at = g.M.Memory.at in
     does_rest c.args.self.now.image c.args.self.now.slaves (shown at c.args.self.now) c.args.slave
-    (none_is (task_shown at) (is_run_by c.args.self.now.slaves c.args.slave) c.args.self.now.tasks.items c.in-None.ensures)
+    (none_is (task_shown at) (is_shown_run_by c.args.self.now.slaves c.args.slave) c.args.self.now.tasks.items c.in-None.ensures)
 
 pub returns-in_ok-did-in-Some-clause-ok : goal.returns-in_ok-did-in-Some-clause-ok
 returns-in_ok-did-in-Some-clause-ok g c =
@@ -99,7 +99,7 @@ returns-in_ok-did-in-Some-clause-ok g c =
     let i = c.in-Some.place in
     let x = c.index_mut.result.now in
     let y = c.advance.new.self in
-    let p = is_run_by slaves c.args.slave in
+    let p = is_shown_run_by slaves c.args.slave in
     let s = shown at c.args.self.now in
     let h = first_is f p items i x c.in-Some.ensures c.index_mut.ensures.value in
     let does = does_run image slaves s c.args.slave i (f x) h.within (ap p (h.item (f x)) ∙ h.passes) (λ k l. h.before k (f x) l) (f y) c.of_task.result
@@ -119,7 +119,7 @@ returns-in_ok-did-in-Some-clause-tasks g c =
     let x = c.index_mut.result.now in
     let y = c.advance.new.self in
     let ks = (shown at c.args.self.now).tasks in
-    let h = first_is f (is_run_by c.args.self.now.slaves c.args.slave) items i x c.in-Some.ensures c.index_mut.ensures.value in
+    let h = first_is f (is_shown_run_by c.args.self.now.slaves c.args.slave) items i x c.in-Some.ensures c.index_mut.ensures.value in
     ∥∥₁_map c.requires.tasks
     (λ known. subst (AreTasksOf image) (sym (map-set f items i y))
     (tasks_set image ks i (f y) known (c.in_ok-did-in-Some.ensures.task (subst (IsTaskOf image) (h.item (f x)) (task_at image ks i (f x) known h.within)))))
