@@ -50,6 +50,11 @@ each idle event.  The guest queens.elf is that of examples/corpus.  Each figure 
 a row in docs/MAP.md that begins with its name and its number, as `| run mix | 75.3 |`.  Where one
 is missing, or a figure is more than 5 in 100 above the number of its row, the status is 1.
 
+--adapting counts host instructions, by callgrind, of the long programs of examples/ and its corpus, for each
+committed instruction: of `run` alone, of `run` beside the image that `profile` of the whole run and `distill` make, and of
+`run --adapt 1000000`, with the most that the last may cost: 1.3 times the second and 4 times the first.  And of 100 steps
+that are taken after the first 2,000,000 it tells how many tasks took care of, beside that image and where images are made anew.
+
 --masks distils programs of 2,000, 32,000 and 524,288 instructions by profiles that are made
 here, and prints the seconds and the greatest resident set of each: a line at whose end one
 register is read; and one at whose end 31 registers are read, one after the other, so that
@@ -77,6 +82,9 @@ QEMU = "qemu-riscv32"
 WINDOW = (2_000_000, 3_000_000)
 # queens ends after 2,009,742 instructions
 EARLIER = (1_000_000, 2_000_000)
+
+# a run that is worth adapting to has so many steps, and none has more than the last number; an image is made every so many
+LONG, WHOLE, EVERY = 8_000_000, 100_000_000, "1000000"
 
 # adds 1 to x5 and jumps back to that
 LOOP = (0x00128293, 0xFFDFF06F)
@@ -320,9 +328,7 @@ def show_replays(binary, runs):
 def reported(words, report):
     """The processor seconds of a run that its budget cuts off, the instructions that were
     committed, and how many of them by tasks."""
-    seconds = seconds_of(words, 120)
-    told = dict(line.rsplit(" ", 1) for line in Path(report).read_text().splitlines())
-    return seconds, int(told["position"]), int(told["by-tasks"])
+    return seconds_of(words, 120), *standing(report)
 
 
 def show_rounds(binary, runs):
@@ -481,18 +487,27 @@ def show_hostile(binary):
             show(f"profile, {count} targets, descending", ["profile", file, image])
 
 
-def committed_for_each(binary, file, image, slaves, folder, window):
-    """The host instructions of a run beside an image for each committed instruction. A run may
-    pass its budget by a task, so the report tells how many there were."""
+def standing(report):
+    """Where a run stood by its report: its position, and how many of its steps tasks took care of."""
+    told = dict(line.rsplit(" ", 1) for line in Path(report).read_text().splitlines())
+    return int(told["position"]), int(told["by-tasks"])
+
+
+def committed_for_each(words, folder, window):
+    """The host instructions of a run in rounds for each committed instruction. A run may pass its
+    budget by a task, so the report tells how many there were."""
     report = os.path.join(folder, "report")
     counts = []
     for budget in window:
-        words = [binary, "run", file, "--image", image, "--slaves", str(slaves), "--report", report]
-        host = host_instructions([*words, "--budget", str(budget)])
-        told = dict(line.rsplit(" ", 1) for line in Path(report).read_text().splitlines())
-        counts.append((host, int(told["position"])))
+        host = host_instructions([*words, "--report", report, "--budget", str(budget)])
+        counts.append((host, standing(report)[0]))
     (first, start), (last, end) = counts
     return (last - first) / (end - start)
+
+
+def beside(binary, file, image, slaves):
+    """The words of a run beside an image."""
+    return [binary, "run", str(file), "--image", image, "--slaves", str(slaves)]
 
 
 def idle_for_each(binary, folder):
@@ -522,7 +537,7 @@ def figures(binary):
         Path(program).write_bytes(program_of(PRINTING))
         Path(image).write_bytes(printing_image())
         yield ("run --image printing, slaves 4",
-               committed_for_each(binary, program, image, 4, folder, EARLIER))
+               committed_for_each(beside(binary, program, image, 4), folder, EARLIER))
         for name, file in files.items():
             profile, image = (os.path.join(folder, kind) for kind in ("profile", "distilled"))
             subprocess.run([binary, "profile", str(file), profile], check=True)
@@ -530,7 +545,46 @@ def figures(binary):
             window = WINDOW if name in PROGRAMS else EARLIER
             for slaves in (4, 16, 64):
                 yield (f"run --image {name}, slaves {slaves}",
-                       committed_for_each(binary, str(file), image, slaves, folder, window))
+                       committed_for_each(beside(binary, file, image, slaves), folder, window))
+
+
+def long_programs():
+    """The programs whose runs are long enough to adapt to: name, file, words for the input."""
+    for name in PROGRAMS:
+        yield name, EXAMPLES / "bin" / f"{name}.elf", []
+    corpus = EXAMPLES / "corpus"
+    for line in (corpus / "cases.txt").read_text().splitlines():
+        case, program, given, _, steps = line.split("#")[0].split() or ["", "", "", "", 0]
+        if int(steps) >= LONG:
+            words = [] if given == "-" else ["--input", str(corpus / "in" / given)]
+            yield case, corpus / "elf" / f"{program}.elf", words
+
+
+def share_by_tasks(words, folder):
+    """Of 100 steps that a run takes after the window began, how many tasks took care of."""
+    report = os.path.join(folder, "report")
+    stood = []
+    for budget in (WINDOW[0], WHOLE):
+        subprocess.run([*words, "--report", report, "--budget", str(budget)], stdin=subprocess.DEVNULL,
+                       stdout=subprocess.DEVNULL, stderr=subprocess.DEVNULL)
+        stood.append(standing(report))
+    (start, before), (end, after) = stood
+    return 100 * (after - before) / (end - start)
+
+
+def show_adapting(binary):
+    print("host instructions for each committed instruction, by callgrind; of 100 steps those by tasks")
+    print(f"{'':16}" + "".join(f"{name:>12}" for name in ("run", "--image", "--adapt", "allowed", "--image", "--adapt")))
+    with tempfile.TemporaryDirectory() as folder:
+        profile, image = (os.path.join(folder, name) for name in ("profile", "image"))
+        for name, file, given in long_programs():
+            subprocess.run([binary, "profile", str(file), profile, *given], check=True)
+            subprocess.run([binary, "distill", str(file), profile, image], check=True)
+            run = for_each([binary, "run", str(file), *given])
+            both = ([*beside(binary, file, image, 4), *given], [binary, "run", str(file), "--adapt", EVERY, *given])
+            held, adapted = (committed_for_each(words, folder, WINDOW) for words in both)
+            shares = "".join(f"{share_by_tasks(words, folder):12.2f}" for words in both)
+            print(f"{name:16}{run:12.1f}{held:12.1f}{adapted:12.1f}{1.3 * held + 4 * run:12.1f}{shares}", flush=True)
 
 
 def rows_of_the_map():
@@ -611,6 +665,7 @@ def main():
     parser.add_argument("--hostile", action="store_true", help="time large files and wide programs alone")
     parser.add_argument("--figures", action="store_true",
                         help="count host instructions alone, and compare them with docs/MAP.md")
+    parser.add_argument("--adapting", action="store_true", help="count host instructions of adaptive runs alone")
     parser.add_argument("--masks", action="store_true", help="time distilling of long lines, and trials, alone")
     words = parser.parse_args()
     if words.runs < 1:
@@ -621,6 +676,8 @@ def main():
         if not shutil.which("valgrind"):
             sys.exit("bench.py: valgrind isn't installed")
         return check_figures(os.path.abspath(words.binary))
+    if words.adapting:
+        return show_adapting(os.path.abspath(words.binary))
     if words.replay:
         return show_replays(os.path.abspath(words.binary), words.runs)
     if words.hostile:
