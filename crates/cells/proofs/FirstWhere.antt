@@ -39,14 +39,14 @@ first_where_some p (suc n) k e =
 
 -- so one that is the first is the one found
 pub first_where_at : (p : ℕ → Bool) (n k : ℕ) → p k ≡ true → k < n → ((j : ℕ) → j < k → p j ≡ false) → first_where p n ≡ Some k
-first_where_at p n k here l before = go (first_where p n) refl
+first_where_at p n k here l before = found_is_k (first_where p n) refl
   where
     order : (j k : ℕ) → (j ≡ k) ⊎ ((j < k) ⊎ (k < j))
     order j k = grind arith
 
-    go : (o : Option ℕ) → first_where p n ≡ o → o ≡ Some k
-    go None e = absurd (true≢false (sym here ∙ first_where_none p n e k l))
-    go (Some j) e =
+    found_is_k : (o : Option ℕ) → first_where p n ≡ o → o ≡ Some k
+    found_is_k None e = absurd (true≢false (sym here ∙ first_where_none p n e k l))
+    found_is_k (Some j) e =
         let r = first_where_some p n j e in
         ⊎_elim
         (λ (h : j ≡ k). ap Some h)
@@ -54,8 +54,8 @@ first_where_at p n k here l before = go (first_where p n) refl
         (order j k)
 
 pub first_where_none_of : (p : ℕ → Bool) (n : ℕ) → ((j : ℕ) → j < n → p j ≡ false) → first_where p n ≡ None
-first_where_none_of p n h = go (first_where p n) refl
+first_where_none_of p n h = finds_none (first_where p n) refl
   where
-    go : (o : Option ℕ) → first_where p n ≡ o → o ≡ None
-    go None e = refl
-    go (Some k) e = let r = first_where_some p n k e in absurd (true≢false (sym r.0 ∙ h k r.1))
+    finds_none : (o : Option ℕ) → first_where p n ≡ o → o ≡ None
+    finds_none None e = refl
+    finds_none (Some k) e = let r = first_where_some p n k e in absurd (true≢false (sym r.0 ∙ h k r.1))

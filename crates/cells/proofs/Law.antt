@@ -107,16 +107,16 @@ module _ (m : Machine) (local : IsLocal m) where
   -- at each cell, the moves from s are s with the task's writes and pc
   pub follows_cells : (c s : Arch) (t : ℕ) → IsQuiet m c t → Matches m c t s → (x : Cell) → value (moves m s t) x ≡ applied m c t s x
   follows_cells c s t quiet h Pc = (follows c s t quiet h).pc
-  follows_cells c s t quiet h (Reg n) = go (written m c t (Reg n)) refl
+  follows_cells c s t quiet h (Reg n) = reg_if_written (written m c t (Reg n)) refl
     where
-      go : (b : Bool) → written m c t (Reg n) ≡ b → value (moves m s t) (Reg n) ≡ cond b (value (moves m c t) (Reg n)) (value s (Reg n))
-      go true e = (follows c s t quiet h).put (Reg n) e
-      go false e = (follows c s t quiet h).kept (Reg n) refl e
-  follows_cells c s t quiet h (Byte a) = go (written m c t (Byte a)) refl
+      reg_if_written : (b : Bool) → written m c t (Reg n) ≡ b → value (moves m s t) (Reg n) ≡ cond b (value (moves m c t) (Reg n)) (value s (Reg n))
+      reg_if_written true e = (follows c s t quiet h).put (Reg n) e
+      reg_if_written false e = (follows c s t quiet h).kept (Reg n) refl e
+  follows_cells c s t quiet h (Byte a) = byte_if_written (written m c t (Byte a)) refl
     where
-      go : (b : Bool) → written m c t (Byte a) ≡ b → value (moves m s t) (Byte a) ≡ cond b (value (moves m c t) (Byte a)) (value s (Byte a))
-      go true e = (follows c s t quiet h).put (Byte a) e
-      go false e = (follows c s t quiet h).kept (Byte a) refl e
+      byte_if_written : (b : Bool) → written m c t (Byte a) ≡ b → value (moves m s t) (Byte a) ≡ cond b (value (moves m c t) (Byte a)) (value s (Byte a))
+      byte_if_written true e = (follows c s t quiet h).put (Byte a) e
+      byte_if_written false e = (follows c s t quiet h).kept (Byte a) refl e
 
   -- the law
   pub jump : (c s : Arch) (t : ℕ) → IsQuiet m c t → Matches m c t s → apply m c t s ≡ moves m s t

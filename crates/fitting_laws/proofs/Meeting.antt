@@ -27,18 +27,18 @@ module _ (start : State) (image : Distilled) (slaves : ℕ) (fits : Fits (progra
   fails x listed i l going f = meets i l going listed.0 x listed.1 f
 
   code : (i : ℕ) → i < n → is_over (state_at start i) ≡ false → is_analysed image (pc_at start i) ≡ true → word_at (arch_at start i) ≡ program start (pc_at start i)
-  code i l going has = go (nat_eq (word_at (arch_at start i)) (program start (pc_at start i))) refl
+  code i l going has = word_of_program (nat_eq (word_at (arch_at start i)) (program start (pc_at start i))) refl
     where
-      go : (b : Bool) → nat_eq (word_at (arch_at start i)) (program start (pc_at start i)) ≡ b → word_at (arch_at start i) ≡ program start (pc_at start i)
-      go true e = eqb-true (word_at (arch_at start i)) (program start (pc_at start i)) e
-      go false e = absurd (fails Code fits.listed.0 i l going (has, eqb-false (word_at (arch_at start i)) (program start (pc_at start i)) e))
+      word_of_program : (b : Bool) → nat_eq (word_at (arch_at start i)) (program start (pc_at start i)) ≡ b → word_at (arch_at start i) ≡ program start (pc_at start i)
+      word_of_program true e = eqb-true (word_at (arch_at start i)) (program start (pc_at start i)) e
+      word_of_program false e = absurd (fails Code fits.listed.0 i l going (has, eqb-false (word_at (arch_at start i)) (program start (pc_at start i)) e))
 
   within : (i : ℕ) → i < n → is_over (state_at start i) ≡ false → is_analysed image (pc_at start i) ≡ true → (task_machine image).stops (arch_at start i) ≡ false → is_analysed image (pc_at start (suc i)) ≡ true
-  within i l going has quiet = go (is_analysed image (pc_at start (suc i))) refl
+  within i l going has quiet = still_analysed (is_analysed image (pc_at start (suc i))) refl
     where
-      go : (b : Bool) → is_analysed image (pc_at start (suc i)) ≡ b → b ≡ true
-      go true e = refl
-      go false e = absurd (fails Within fits.listed.1 i l going (has, quiet, e))
+      still_analysed : (b : Bool) → is_analysed image (pc_at start (suc i)) ≡ b → b ≡ true
+      still_analysed true e = refl
+      still_analysed false e = absurd (fails Within fits.listed.1 i l going (has, quiet, e))
 
   -- where the run goes on
   abbrev prints : ℕ → Bool
@@ -53,7 +53,7 @@ module _ (start : State) (image : Distilled) (slaves : ℕ) (fits : Fits (progra
       → among (leads (claims image) (pc_at start i) (meaning (program start (pc_at start i)))) (pc_at start (suc i)) ≡ true
   follows i l going has quiet =
       ap (λ c. among (leads (claims image) (pc_at start i) (meaning c)) (pc_at start (suc i))) (sym (code i l going has))
-      ∙ by (asks prints (fetched_at start i) (pc_at start i)) refl
+      ∙ leads_if_asked (asks prints (fetched_at start i) (pc_at start i)) refl
     where
       -- a call that the task does leads to the next pc
       called : (b : Bool) → is_call (fetched_at start i) ≡ true → prints (pc_at start i) ≡ true
@@ -75,12 +75,12 @@ module _ (start : State) (image : Distilled) (slaves : ℕ) (fits : Fits (progra
       targeted to e jumps true f = refl
       targeted to e jumps false f = absurd (fails (Targets (pc_at start i) to) (targets_listed image (pc_at start i) to e) i l going (refl, quiet, jumps, f))
 
-      by : (b : Bool) → asks prints (fetched_at start i) (pc_at start i) ≡ b → among (leads (claims image) (pc_at start i) (fetched_at start i)) (pc_at start (suc i)) ≡ true
-      by true e =
+      leads_if_asked : (b : Bool) → asks prints (fetched_at start i) (pc_at start i) ≡ b → among (leads (claims image) (pc_at start i) (fetched_at start i)) (pc_at start (suc i)) ≡ true
+      leads_if_asked true e =
           let both = and_parts (prints (pc_at start i)) (is_call (fetched_at start i)) e in
           ap (among (leads (claims image) (pc_at start i) (fetched_at start i))) (next_at i going quiet)
           ∙ called (is_task_call prints (fetched_at start i) (pc_at start i) (value (arch_at start i))) both.1 both.0 goes
-      by false e =
+      leads_if_asked false e =
           let own = own_effect prints (fetched_at start i) (pc_at start i) (value (arch_at start i)) e in
           let at : pc_at start (suc i) ≡ pc_after (pc_at start i) (effect_at (fetched_at start i) (pc_at start i) (value (arch_at start i))).flow =
           next_at i going quiet ∙ ap (λ (f : Effect). pc_after (pc_at start i) f.flow) own in
@@ -98,15 +98,15 @@ module _ (start : State) (image : Distilled) (slaves : ℕ) (fits : Fits (progra
   stale_from : (i a : ℕ) → seen.stale (setting start image slaves n) i a ≡ true → Wrote i a
   unfolding Wrote
   stale_from zero a e = absurd (true≢false (sym e))
-  stale_from (suc i) a e = go (writes (state_at start i) (Byte a)) refl (stale_from i a) e
+  stale_from (suc i) a e = wrote_if_writes (writes (state_at start i) (Byte a)) refl (stale_from i a) e
     where
       below : (h i : ℕ) → h < suc i → (h ≡ i) ⊎ (h < i)
       below h i l = grind arith
 
-      go : (b : Bool) → writes (state_at start i) (Byte a) ≡ b → (seen.stale (setting start image slaves n) i a ≡ true → Wrote i a)
+      wrote_if_writes : (b : Bool) → writes (state_at start i) (Byte a) ≡ b → (seen.stale (setting start image slaves n) i a ≡ true → Wrote i a)
           → cond b ((claims image).dead (pc_at start i) && is_store (fetched_at start i)) (seen.stale (setting start image slaves n) i a) ≡ true → Wrote (suc i) a
-      go true f rest e = (i, record { before = omega arith; wrote = f; last = λ h u v. absurd (omega (arith, u, v)) }, e)
-      go false f rest e =
+      wrote_if_writes true f rest e = (i, record { before = omega arith; wrote = f; last = λ h u v. absurd (omega (arith, u, v)) }, e)
+      wrote_if_writes false f rest e =
           let r = rest e in (
             r.0,
             record {
@@ -119,11 +119,11 @@ module _ (start : State) (image : Distilled) (slaves : ℕ) (fits : Fits (progra
 
   fresh : (i a : ℕ) → i < n → is_over (state_at start i) ≡ false → (task_machine image).reads (arch_at start i) (Byte a) ≡ true → seen.stale (setting start image slaves n) i a ≡ false
   unfolding Wrote
-  fresh i a l going reads = go (seen.stale (setting start image slaves n) i a) refl
+  fresh i a l going reads = not_stale (seen.stale (setting start image slaves n) i a) refl
     where
-      go : (b : Bool) → seen.stale (setting start image slaves n) i a ≡ b → b ≡ false
-      go false e = refl
-      go true e =
+      not_stale : (b : Bool) → seen.stale (setting start image slaves n) i a ≡ b → b ≡ false
+      not_stale false e = refl
+      not_stale true e =
           let r = stale_from i a e in
           let parts = and_parts ((claims image).dead (pc_at start r.0)) (is_store (fetched_at start r.0)) r.2 in
           absurd (fails (Dead (pc_at start r.0)) (dead_listed image (pc_at start r.0) parts.0) i l going (a, r.0, reads, r.1, refl, parts.1))
@@ -142,15 +142,15 @@ module _ (start : State) (image : Distilled) (slaves : ℕ) (fits : Fits (progra
       )
 
   holds : (i : ℕ) → i < n → is_over (state_at start i) ≡ false → holds_as (same_at image (pc_at start i)) (fetched_at start i) (arch_at start i) ≡ true
-  holds i l going = go (same_at image (pc_at start i)) refl
+  holds i l going = holds_if_claimed (same_at image (pc_at start i)) refl
     where
       loads : (v : ℕ) → same_at image (pc_at start i) ≡ Some v → (b : Bool) → loads_as v (fetched_at start i) (arch_at start i) ≡ b → b ≡ true
       loads v e true f = refl
       loads v e false f = absurd (fails (Same (pc_at start i) v) (same_listed image (pc_at start i) v e) i l going (refl, f))
 
-      go : (o : Option ℕ) → same_at image (pc_at start i) ≡ o → holds_as o (fetched_at start i) (arch_at start i) ≡ true
-      go None e = refl
-      go (Some v) e = loads v e (loads_as v (fetched_at start i) (arch_at start i)) refl
+      holds_if_claimed : (o : Option ℕ) → same_at image (pc_at start i) ≡ o → holds_as o (fetched_at start i) (arch_at start i) ≡ true
+      holds_if_claimed None e = refl
+      holds_if_claimed (Some v) e = loads v e (loads_as v (fetched_at start i) (arch_at start i)) refl
 
   pub meets_shown : seen.Meets (setting start image slaves n)
   meets_shown = record { code = code; within = within; follows = follows; fresh = fresh; holds = holds; span = span }

@@ -65,7 +65,7 @@ module _ (c : Claims) (pc need : ℕ) where
 
   -- and writes no register that is needed there
   pub unwritten : (i : Inst) → MayPass c pc need i → (r : ℕ) → in_mask need r ≡ true → in_mask (writes i) r ≡ false
-  unwritten i may r h = go i may
+  unwritten i may r h = not_in_writes i may
     where
       by_apart : (i : Inst) → AreApart (writes i) need → in_mask (writes i) r ≡ false
       by_apart i away = test (in_mask (writes i) r) refl
@@ -74,20 +74,20 @@ module _ (c : Claims) (pc need : ℕ) where
           test true e = absurd (true≢false (sym h ∙ away r e))
           test false e = refl
 
-      go : (i : Inst) → MayPass c pc need i → in_mask (writes i) r ≡ false
-      go (Lui rd imm) may = by_apart (Lui rd imm) may
-      go (Auipc rd imm) may = by_apart (Auipc rd imm) may
-      go (Jal rd off) may = absurd may
-      go (Jalr rd rs1 off) may = absurd may
-      go (Branch test rs1 rs2 off) may = in_mask-none r
-      go (Load kind rd rs1 off) may = by_apart (Load kind rd rs1 off) may
-      go (Store kind rs1 rs2 off) may = in_mask-none r
-      go (OpImm op rd rs1 imm) may = by_apart (OpImm op rd rs1 imm) may
-      go (Op op rd rs1 rs2) may = by_apart (Op op rd rs1 rs2) may
-      go (Fence w) may = in_mask-none r
-      go Ecall may = absurd may
-      go Ebreak may = absurd may
-      go (Illegal w) may = absurd may
+      not_in_writes : (i : Inst) → MayPass c pc need i → in_mask (writes i) r ≡ false
+      not_in_writes (Lui rd imm) may = by_apart (Lui rd imm) may
+      not_in_writes (Auipc rd imm) may = by_apart (Auipc rd imm) may
+      not_in_writes (Jal rd off) may = absurd may
+      not_in_writes (Jalr rd rs1 off) may = absurd may
+      not_in_writes (Branch test rs1 rs2 off) may = in_mask-none r
+      not_in_writes (Load kind rd rs1 off) may = by_apart (Load kind rd rs1 off) may
+      not_in_writes (Store kind rs1 rs2 off) may = in_mask-none r
+      not_in_writes (OpImm op rd rs1 imm) may = by_apart (OpImm op rd rs1 imm) may
+      not_in_writes (Op op rd rs1 rs2) may = by_apart (Op op rd rs1 rs2) may
+      not_in_writes (Fence w) may = in_mask-none r
+      not_in_writes Ecall may = absurd may
+      not_in_writes Ebreak may = absurd may
+      not_in_writes (Illegal w) may = absurd may
 
   pub no_call : (i : Inst) → MayPass c pc need i → is_call i ≡ false
   no_call (Lui rd imm) may = refl
@@ -130,7 +130,7 @@ module _ (c : Claims) (pc need : ℕ) where
 
   -- and puts bytes only where it is a dead store
   pub dead_only : (i : Inst) (a b n x : ℕ) → MayPass c pc need i → is_some (puts_of (effect i pc a b n).puts (Byte x)) ≡ true → (c.dead pc && is_store i) ≡ true
-  dead_only i a b n x may h = go i may h
+  dead_only i a b n x may h = only_dead i may h
     where
       no_byte : (rd v : ℕ) → is_some (puts_of (register_puts rd v) (Byte x)) ≡ false
       no_byte rd v = none (nat_eq rd 0)
@@ -150,17 +150,17 @@ module _ (c : Claims) (pc need : ℕ) where
       neither : {A : Type 0} (z : Bool) → z ≡ true → z ≡ false → A
       neither z e f = absurd (true≢false (sym e ∙ f))
 
-      go : (i : Inst) → MayPass c pc need i → is_some (puts_of (effect i pc a b n).puts (Byte x)) ≡ true → (c.dead pc && is_store i) ≡ true
-      go (Lui rd imm) may h = neither _ h (no_byte rd _)
-      go (Auipc rd imm) may h = neither _ h (no_byte rd _)
-      go (Jal rd off) may h = absurd may
-      go (Jalr rd rs1 off) may h = absurd may
-      go (Branch test rs1 rs2 off) may h = neither _ h (no_branch (holds test a b) (sum32 pc off))
-      go (Load kind rd rs1 off) may h = neither _ h (no_byte rd _)
-      go (Store kind rs1 rs2 off) may h = ap (λ d. d && true) may
-      go (OpImm op rd rs1 imm) may h = neither _ h (no_byte rd _)
-      go (Op op rd rs1 rs2) may h = neither _ h (no_byte rd _)
-      go (Fence w) may h = absurd (true≢false (sym h))
-      go Ecall may h = absurd may
-      go Ebreak may h = absurd may
-      go (Illegal w) may h = absurd may
+      only_dead : (i : Inst) → MayPass c pc need i → is_some (puts_of (effect i pc a b n).puts (Byte x)) ≡ true → (c.dead pc && is_store i) ≡ true
+      only_dead (Lui rd imm) may h = neither _ h (no_byte rd _)
+      only_dead (Auipc rd imm) may h = neither _ h (no_byte rd _)
+      only_dead (Jal rd off) may h = absurd may
+      only_dead (Jalr rd rs1 off) may h = absurd may
+      only_dead (Branch test rs1 rs2 off) may h = neither _ h (no_branch (holds test a b) (sum32 pc off))
+      only_dead (Load kind rd rs1 off) may h = neither _ h (no_byte rd _)
+      only_dead (Store kind rs1 rs2 off) may h = ap (λ d. d && true) may
+      only_dead (OpImm op rd rs1 imm) may h = neither _ h (no_byte rd _)
+      only_dead (Op op rd rs1 rs2) may h = neither _ h (no_byte rd _)
+      only_dead (Fence w) may h = absurd (true≢false (sym h))
+      only_dead Ecall may h = absurd may
+      only_dead Ebreak may h = absurd may
+      only_dead (Illegal w) may h = absurd may

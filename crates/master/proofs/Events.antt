@@ -138,11 +138,11 @@ module _ (image : Distilled) (a : Master) (o w : ℕ) where
   exec_calls h =
       ap (λ b. done (cond ((prints_at image o && b) && is_short_write (value at)) answers does)) (call_flow (meaning w) o _ _ _ h)
       ∙ ap (λ b. done (cond (b && is_short_write (value at)) answers does)) (and_true (prints_at image o))
-      ∙ go (prints_at image o && is_short_write (value at))
+      ∙ done_if_answered (prints_at image o && is_short_write (value at))
     where
-      go : (b : Bool) → done (cond b answers does) ≡ cond b (go_to a (moved answers a.arch) (slot_of image (after o))) (Halts why.Call)
-      go true = refl
-      go false =
+      done_if_answered : (b : Bool) → done (cond b answers does) ≡ cond b (go_to a (moved answers a.arch) (slot_of image (after o))) (Halts why.Call)
+      done_if_answered true = refl
+      done_if_answered false =
           ap (λ f. cond (not (is_next f)) (Halts (why_of f)) (go_to a (moved does at) (slot_of image (moved does at).pc))) h
 
 -- by whether the call is one that a task does
@@ -155,11 +155,11 @@ pub answered : (old new : List ℕ) (pc o : ℕ) (mem : ℕ → ℕ) → ((n : �
     → arch_of (after o) new mem ≡ moved (next o ((Reg 10, slice_index old 12) ∷ [])) (arch_of pc old mem)
 unfolding moved given_values
 answered old new pc o mem h =
-    let regs = fun_ext (λ n. h n ∙ go n (nat_eq 10 n)) in λ i. record { pc = after o; regs = regs i; mem = mem }
+    let regs = fun_ext (λ n. h n ∙ put_or_old n (nat_eq 10 n)) in λ i. record { pc = after o; regs = regs i; mem = mem }
   where
-    go : (n : ℕ) (b : Bool) → cond b (slice_index old 12) (slice_index old n) ≡ unwrap_or (cond b (Some (slice_index old 12)) None) (slice_index old n)
-    go n true = refl
-    go n false = refl
+    put_or_old : (n : ℕ) (b : Bool) → cond b (slice_index old 12) (slice_index old n) ≡ unwrap_or (cond b (Some (slice_index old 12)) None) (slice_index old n)
+    put_or_old n true = refl
+    put_or_old n false = refl
 
 -- what an answer says of one event, it says of an equal one
 pub drives : {E : Type 0} (r : Result MasterDid E) (image : Distilled) (b : Master) (x y : Driven) → x ≡ y → IfOk r (λ d. as_driven image d b ≡ x) → IfOk r (λ d. as_driven image d b ≡ y)

@@ -35,11 +35,11 @@ cells_are_places (suc k) a b = ap (λ c. nat_eq (a % 2 ^ 32) b || c) (cells_are_
 -- no register is a byte
 no_register : (rs : List ℕ) (cs : List Cell) (b : ℕ) → is_cell_of (flat_map register_cell rs ++ cs) (Byte b) ≡ is_cell_of cs (Byte b)
 no_register [] cs b = refl
-no_register (r ∷ rs) cs b = go (r == 0) (no_register rs cs b)
+no_register (r ∷ rs) cs b = none_if_zero (r == 0) (no_register rs cs b)
   where
-    go : (t : Bool) → is_cell_of (flat_map register_cell rs ++ cs) (Byte b) ≡ is_cell_of cs (Byte b) → is_cell_of ((cond t [] (Reg r ∷ []) ++ flat_map register_cell rs) ++ cs) (Byte b) ≡ is_cell_of cs (Byte b)
-    go true rest = rest
-    go false rest = rest
+    none_if_zero : (t : Bool) → is_cell_of (flat_map register_cell rs ++ cs) (Byte b) ≡ is_cell_of cs (Byte b) → is_cell_of ((cond t [] (Reg r ∷ []) ++ flat_map register_cell rs) ++ cs) (Byte b) ≡ is_cell_of cs (Byte b)
+    none_if_zero true rest = rest
+    none_if_zero false rest = rest
 
 abbrev own_loads : Inst → Arch → ℕ → Bool
 own_loads i s b = among (places (load_count i) (load_from i (first (sources i) (value s)))) b
@@ -51,7 +51,7 @@ own_bytes i s b =
 
 -- beside what the instruction loads by itself, a call's bytes are shown
 task_bytes : (prints : ℕ → Bool) (i : Inst) (s : Arch) (b : ℕ) → is_cell_of (task_cells prints i s.pc (value s)) (Byte b) ≡ among (bytes_in (loaded prints i s)) b
-task_bytes prints i s b = by (asks prints i s.pc) refl
+task_bytes prints i s b = told_if_asked (asks prints i s.pc) refl
   where
     read_by : Bool → Bool → Bool
     read_by a c = is_cell_of (cond a (arguments ++ cond c (byte_cells (s.regs 12) (s.regs 11)) []) [] ++ cells i (value s)) (Byte b)
@@ -66,9 +66,9 @@ task_bytes prints i s b = by (asks prints i s.pc) refl
         ∙ cells_are_places (s.regs 12) (s.regs 11) b
     shows false call = own_bytes i s b
 
-    by : (a : Bool) → asks prints i s.pc ≡ a → read_by a (is_short_write (value s)) ≡ told (a && is_short_write (value s))
-    by false e = own_bytes i s b
-    by true e = shows (is_short_write (value s)) (and_parts (prints s.pc) (is_call i) e).1
+    told_if_asked : (a : Bool) → asks prints i s.pc ≡ a → read_by a (is_short_write (value s)) ≡ told (a && is_short_write (value s))
+    told_if_asked false e = own_bytes i s b
+    told_if_asked true e = shows (is_short_write (value s)) (and_parts (prints s.pc) (is_call i) e).1
 
 pub reads_are_loads : (prints : ℕ → Bool) (s : Arch) (b : ℕ) → (machine_in prints).reads s (Byte b) ≡ (among (places 4 s.pc) b || among (bytes_in (loaded prints (meaning (word_at s)) s)) b)
 reads_are_loads prints s b =
@@ -77,11 +77,11 @@ reads_are_loads prints s b =
 
 -- a register's put is no byte's
 no_register_put : (r v b : ℕ) → is_some (puts_of (register_puts r v) (Byte b)) ≡ false
-no_register_put r v b = go (r == 0)
+no_register_put r v b = no_put_if_zero (r == 0)
   where
-    go : (t : Bool) → is_some (puts_of (cond t [] ((Reg r, v) ∷ [])) (Byte b)) ≡ false
-    go true = refl
-    go false = refl
+    no_put_if_zero : (t : Bool) → is_some (puts_of (cond t [] ((Reg r, v) ∷ [])) (Byte b)) ≡ false
+    no_put_if_zero true = refl
+    no_put_if_zero false = refl
 
 put_or : (o : Option ℕ) (t : Bool) (v : ℕ) → is_some (or_first o (cond t (Some v) None)) ≡ (t || is_some o)
 put_or None true v = refl
@@ -120,11 +120,11 @@ module _ (s : State) (b : ℕ) where
 
   call_puts_taken : call_puts s (Byte b) ≡ among (bytes_in (taken_in s)) b
   unfolding places
-  call_puts_taken = go (nat_eq (s.arch.regs 17) 63 && nat_eq (s.arch.regs 10) 0)
+  call_puts_taken = taken_if_reading (nat_eq (s.arch.regs 17) 63 && nat_eq (s.arch.regs 10) 0)
     where
-      go : (t : Bool) → (t && is_cell_of (byte_cells (read_count s) (s.arch.regs 11)) (Byte b)) ≡ among (bytes_in (cond t (span (read_count s) (s.arch.regs 11)) no_bytes)) b
-      go true = cells_are_places (read_count s) (s.arch.regs 11) b
-      go false = refl
+      taken_if_reading : (t : Bool) → (t && is_cell_of (byte_cells (read_count s) (s.arch.regs 11)) (Byte b)) ≡ among (bytes_in (cond t (span (read_count s) (s.arch.regs 11)) no_bytes)) b
+      taken_if_reading true = cells_are_places (read_count s) (s.arch.regs 11) b
+      taken_if_reading false = refl
 
   -- by the instruction
   written_by : (i : Inst) → written (effect_at i s.arch.pc (value s.arch)) ≡ among (bytes_in (stored i s)) b

@@ -33,14 +33,14 @@ module _ (prints : ℕ → Bool) (start : State) where
   pub row_pc : (k p : ℕ) → (row k p).pc ≡ p
   unfolding row
   row_pc zero p = refl
-  row_pc (suc k) p = go (nat_eq (pc_at start k) p) (row_pc k p)
+  row_pc (suc k) p = pc_if_visited (nat_eq (pc_at start k) p) (row_pc k p)
     where
       t : Tally
       t = flagged (is_back p k) (row k p)
 
-      go : (b : Bool) → t.pc ≡ p → (cond b (counted (visit_at prints start k) t) t).pc ≡ p
-      go true e = e
-      go false e = e
+      pc_if_visited : (b : Bool) → t.pc ≡ p → (cond b (counted (visit_at prints start k) t) t).pc ≡ p
+      pc_if_visited true e = e
+      pc_if_visited false e = e
 
   pub pcs_apart : (k : ℕ) → AreApart (pcs start k)
   unfolding pcs
@@ -56,16 +56,16 @@ module _ (prints : ℕ → Bool) (start : State) where
       let before = unseen k p parts.0 in
       let back : is_back p k ≡ false = or_from _ _ (no_marks (writers_at k) p before.1 (bytes_in (visit_at prints start k).loads)) (no_marks (writers_at k) p before.1 (places 4 (pc_at start k))) in (
         cond-false (nat_eq (pc_at start k) p) _ _ parts.1 ∙ ap (λ b. flagged b (row k p)) back ∙ ap (flagged false) before.0,
-        λ a. go (among (bytes_in (visit_at prints start k).puts) a) (is_store (fetched_at start k)) a parts.1 (before.1 a),
+        λ a. still_no_mark (among (bytes_in (visit_at prints start k).puts) a) (is_store (fetched_at start k)) a parts.1 (before.1 a),
       )
     where
-      go : (b c : Bool) (a : ℕ) → nat_eq (pc_at start k) p ≡ false → is_mark (writers_at k a) p ≡ false → is_mark (cond b (cond c (pc_at start k + 1) 0) (writers_at k a)) p ≡ false
-      go true true a other none = ap (λ w. is_mark w p) (plus (pc_at start k)) ∙ other
+      still_no_mark : (b c : Bool) (a : ℕ) → nat_eq (pc_at start k) p ≡ false → is_mark (writers_at k a) p ≡ false → is_mark (cond b (cond c (pc_at start k + 1) 0) (writers_at k a)) p ≡ false
+      still_no_mark true true a other none = ap (λ w. is_mark w p) (plus (pc_at start k)) ∙ other
         where
           plus : (n : ℕ) → n + 1 ≡ suc n
           plus n = omega arith
-      go true false a other none = refl
-      go false c a other none = none
+      still_no_mark true false a other none = refl
+      still_no_mark false c a other none = none
 
   pub rows_map : (k : ℕ) → (kept prints start k).rows ≡ map (row k) (pcs start k)
   unfolding row pcs kept

@@ -31,12 +31,12 @@ module _ (prints : ℕ → Bool) (start : State) where
   pub mark_means : (k a p : ℕ) → is_mark (writers_at prints start k a) p ≡ true → (i : ℕ) × IsStored k a p i
   unfolding kept
   mark_means zero a p h = absurd (true≢false (sym h))
-  mark_means (suc k) a p h = go (puts_at k a) refl (is_store (fetched_at start k)) refl (mark_means k a p) h
+  mark_means (suc k) a p h = stored_if_put (puts_at k a) refl (is_store (fetched_at start k)) refl (mark_means k a p) h
     where
-      go : (b : Bool) → puts_at k a ≡ b → (c : Bool) → is_store (fetched_at start k) ≡ c
+      stored_if_put : (b : Bool) → puts_at k a ≡ b → (c : Bool) → is_store (fetched_at start k) ≡ c
           → (is_mark (writers_at prints start k a) p ≡ true → (i : ℕ) × IsStored k a p i)
           → is_mark (cond b (cond c (pc_at start k + 1) 0) (writers_at prints start k a)) p ≡ true → (i : ℕ) × IsStored (suc k) a p i
-      go true e true s before h = (
+      stored_if_put true e true s before h = (
         k,
         record {
           latest = record { before = omega arith; wrote = wrote k a ∙ e; last = λ j low high. absurd (omega arith) };
@@ -44,8 +44,8 @@ module _ (prints : ℕ → Bool) (start : State) where
           store = s;
         },
       )
-      go true e false s before h = absurd (true≢false (sym h))
-      go false e c s before h =
+      stored_if_put true e false s before h = absurd (true≢false (sym h))
+      stored_if_put false e c s before h =
           let w = before h in (
             w.0,
             record {

@@ -21,12 +21,12 @@ use Rattle.profile_laws.proofs.Law.{each_row, row_is, pcs_of_rows}
 pub count_both : (a b : ℕ → Bool) (n : ℕ) → count_below (λ i. a i && b i) n ≤ count_below a n
 unfolding count_below
 count_both a b zero = omega arith
-count_both a b (suc n) = go (a n) (b n) (count_both a b n)
+count_both a b (suc n) = both_at_most (a n) (b n) (count_both a b n)
   where
-    go : (x y : Bool) → count_below (λ i. a i && b i) n ≤ count_below a n → count_below (λ i. a i && b i) n + cond (x && y) 1 0 ≤ count_below a n + cond x 1 0
-    go true true h = omega arith
-    go true false h = omega arith
-    go false y h = omega arith
+    both_at_most : (x y : Bool) → count_below (λ i. a i && b i) n ≤ count_below a n → count_below (λ i. a i && b i) n + cond (x && y) 1 0 ≤ count_below a n + cond x 1 0
+    both_at_most true true h = omega arith
+    both_at_most true false h = omega arith
+    both_at_most false y h = omega arith
 
 -- ---- sums over numbers that differ
 
@@ -42,17 +42,17 @@ sum_other f q (p ∷ ps) none =
 
 sum_one : (f : ℕ → ℕ) (q : ℕ) (ps : List ℕ) → AreApart ps → among ps q ≡ true → sum_by (λ p. f p + cond (nat_eq q p) 1 0) ps ≡ suc (sum_by f ps)
 sum_one f q [] apart there = absurd (true≢false (sym there))
-sum_one f q (p ∷ ps) apart there = go (nat_eq p q) refl (sum_one f q ps apart.1)
+sum_one f q (p ∷ ps) apart there = sum_if_here (nat_eq p q) refl (sum_one f q ps apart.1)
   where
-    go : (b : Bool) → nat_eq p q ≡ b → (among ps q ≡ true → sum_by (λ p. f p + cond (nat_eq q p) 1 0) ps ≡ suc (sum_by f ps))
+    sum_if_here : (b : Bool) → nat_eq p q ≡ b → (among ps q ≡ true → sum_by (λ p. f p + cond (nat_eq q p) 1 0) ps ≡ suc (sum_by f ps))
         → sum_by (λ p. f p + cond (nat_eq q p) 1 0) (p ∷ ps) ≡ suc (sum_by f (p ∷ ps))
-    go true e rest =
+    sum_if_here true e rest =
         let here : f p + cond (nat_eq q p) 1 0 ≡ f p + 1 = ap (λ b. f p + cond b 1 0) (swapped q p ∙ e) in
         let others = sum_other f q ps (ap (among ps) (sym (eqb-true p q e)) ∙ apart.0) in
         let a = sum_by-cons (λ p. f p + cond (nat_eq q p) 1 0) p ps in
         let b = sum_by-cons f p ps in
         omega arith
-    go false e rest =
+    sum_if_here false e rest =
         let here : f p + cond (nat_eq q p) 1 0 ≡ f p + 0 = ap (λ b. f p + cond b 1 0) (swapped q p ∙ e) in
         let others = rest (sym (ap (λ b. b || among ps q) e) ∙ there) in
         let a = sum_by-cons (λ p. f p + cond (nat_eq q p) 1 0) p ps in
@@ -79,11 +79,11 @@ module _ (prints : ℕ → Bool) (start : State) where
   never_executed k p none = sym (executed_is prints start p k) ∙ ap executed_of (unseen prints start k p none).0
 
   sum_with_new : (k : ℕ) → sum_by (executed start k) (with_new (pc_at start k) (pcs start k)) ≡ sum_by (executed start k) (pcs start k)
-  sum_with_new k = go (among (pcs start k) (pc_at start k)) refl
+  sum_with_new k = sum_if_there (among (pcs start k) (pc_at start k)) refl
     where
-      go : (b : Bool) → among (pcs start k) (pc_at start k) ≡ b → sum_by (executed start k) (cond b (pcs start k) (pcs start k ++ pc_at start k ∷ [])) ≡ sum_by (executed start k) (pcs start k)
-      go true e = refl
-      go false e =
+      sum_if_there : (b : Bool) → among (pcs start k) (pc_at start k) ≡ b → sum_by (executed start k) (cond b (pcs start k) (pcs start k ++ pc_at start k ∷ [])) ≡ sum_by (executed start k) (pcs start k)
+      sum_if_there true e = refl
+      sum_if_there false e =
           let a = sum_by_push (executed start k) (pcs start k) (pc_at start k) in
           let b = never_executed k (pc_at start k) e in
           omega arith
@@ -169,12 +169,12 @@ fewer f g le (p ∷ ps) =
 
 longer_placed : (n : ℕ) (ms : List ℕ) → length ms ≤ length (placed n ms)
 longer_placed n [] = omega arith
-longer_placed n (m ∷ ms) = go (nat_lt m n) (nat_eq m n) (longer_placed n ms)
+longer_placed n (m ∷ ms) = longer_if_less (nat_lt m n) (nat_eq m n) (longer_placed n ms)
   where
-    go : (b c : Bool) → length ms ≤ length (placed n ms) → length (m ∷ ms) ≤ length (cond b (m ∷ placed n ms) (cond c (m ∷ ms) (n ∷ m ∷ ms)))
-    go true c h = omega arith
-    go false true h = omega arith
-    go false false h = omega arith
+    longer_if_less : (b c : Bool) → length ms ≤ length (placed n ms) → length (m ∷ ms) ≤ length (cond b (m ∷ placed n ms) (cond c (m ∷ ms) (n ∷ m ∷ ms)))
+    longer_if_less true c h = omega arith
+    longer_if_less false true h = omega arith
+    longer_if_less false false h = omega arith
 
 longer : (o : Option ℕ) (ms : List ℕ) → length ms ≤ length (with_target o ms)
 longer None ms = omega arith
@@ -186,19 +186,19 @@ targets_of t = length t.targets
 module _ (prints : ℕ → Bool) (start : State) where
   more_targets : (k p : ℕ) → targets_of (row prints start k p) ≤ targets_of (row prints start (suc k) p)
   unfolding row
-  more_targets k p = go (nat_eq (pc_at start k) p)
+  more_targets k p = targets_if_visited (nat_eq (pc_at start k) p)
     where
-      go : (b : Bool) → targets_of (row prints start k p) ≤ targets_of (next_row prints start p k b)
-      go true = longer (visit_at prints start k).target (row prints start k p).targets
-      go false = omega arith
+      targets_if_visited : (b : Bool) → targets_of (row prints start k p) ≤ targets_of (next_row prints start p k b)
+      targets_if_visited true = longer (visit_at prints start k).target (row prints start k p).targets
+      targets_if_visited false = omega arith
 
   more_pcs : (f : ℕ → ℕ) (k : ℕ) → sum_by f (pcs start k) ≤ sum_by f (pcs start (suc k))
   unfolding pcs
-  more_pcs f k = go (among (pcs start k) (pc_at start k))
+  more_pcs f k = more_if_there (among (pcs start k) (pc_at start k))
     where
-      go : (b : Bool) → sum_by f (pcs start k) ≤ sum_by f (cond b (pcs start k) (pcs start k ++ pc_at start k ∷ []))
-      go true = omega arith
-      go false = let a = sum_by_push f (pcs start k) (pc_at start k) in omega arith
+      more_if_there : (b : Bool) → sum_by f (pcs start k) ≤ sum_by f (cond b (pcs start k) (pcs start k ++ pc_at start k ∷ []))
+      more_if_there true = omega arith
+      more_if_there false = let a = sum_by_push f (pcs start k) (pc_at start k) in omega arith
 
   abbrev rows_at : ℕ → List Tally
   rows_at k = (kept prints start k).rows
@@ -225,12 +225,12 @@ module _ (prints : ℕ → Bool) (start : State) where
       let b = ap length (rows_map prints start (suc k)) in
       let c = length_map (row prints start k) (pcs start k) in
       let d = length_map (row prints start (suc k)) (pcs start (suc k)) in
-      let e = go (among (pcs start k) (pc_at start k)) in
+      let e = longer_if_there (among (pcs start k) (pc_at start k)) in
       omega arith
     where
-      go : (b : Bool) → length (pcs start k) ≤ length (cond b (pcs start k) (pcs start k ++ pc_at start k ∷ []))
-      go true = omega arith
-      go false = let a = length-append (pcs start k) (pc_at start k ∷ []) in omega arith
+      longer_if_there : (b : Bool) → length (pcs start k) ≤ length (cond b (pcs start k) (pcs start k ++ pc_at start k ∷ []))
+      longer_if_there true = omega arith
+      longer_if_there false = let a = length-append (pcs start k) (pc_at start k ∷ []) in omega arith
 
   wide_next : (k : ℕ) → IsWide (rows_at k) → IsWide (rows_at (suc k))
   wide_next k (inl h) = let m = more_rows k in inl (omega arith)

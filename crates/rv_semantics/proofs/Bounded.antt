@@ -30,11 +30,11 @@ bytes_many zero a = refl
 bytes_many (suc k) a = ap suc (bytes_many k (a + 1))
 
 register_one : (r : ℕ) → length (register_cell r) ≤ 1
-register_one r = go (eqb r 0)
+register_one r = one_cell_at_most (eqb r 0)
   where
-    go : (b : Bool) → length (cond b [] (Reg r ∷ [])) ≤ 1
-    go true = omega arith
-    go false = omega arith
+    one_cell_at_most : (b : Bool) → length (cond b [] (Reg r ∷ [])) ≤ 1
+    one_cell_at_most true = omega arith
+    one_cell_at_most false = omega arith
 
 registers_few : (rs : List ℕ) → length (flat_map register_cell rs) ≤ length rs
 registers_few [] = omega arith
@@ -77,21 +77,21 @@ cells_few i v =
 
 -- a short write shows at most 256 bytes
 shown_few : (v : Cell → ℕ) → length (shown v) ≤ 256
-shown_few v = go (is_short_write v) refl
+shown_few v = few_if_short (is_short_write v) refl
   where
-    go : (b : Bool) → is_short_write v ≡ b → length (cond b (byte_cells (v (Reg 12)) (v (Reg 11))) []) ≤ 256
-    go false e = omega arith
-    go true e =
+    few_if_short : (b : Bool) → is_short_write v ≡ b → length (cond b (byte_cells (v (Reg 12)) (v (Reg 11))) []) ≤ 256
+    few_if_short false e = omega arith
+    few_if_short true e =
         let few = leb-true (v (Reg 12)) 256 (and_parts _ (nat_le (v (Reg 12)) 256) e).1 in
         let many = bytes_many (v (Reg 12)) (v (Reg 11)) in
         omega (arith, few, many)
 
 task_cells_few : (prints : ℕ → Bool) (i : Inst) (pc : ℕ) (v : Cell → ℕ) → length (task_cells prints i pc v) ≤ 260
-task_cells_few prints i pc v = go (asks prints i pc) refl
+task_cells_few prints i pc v = few_if_asked (asks prints i pc) refl
   where
-    go : (b : Bool) → asks prints i pc ≡ b → length (cond b (arguments ++ shown v) [] ++ cells i v) ≤ 260
-    go false e = let few = cells_few i v in omega (arith, few)
-    go true e =
+    few_if_asked : (b : Bool) → asks prints i pc ≡ b → length (cond b (arguments ++ shown v) [] ++ cells i v) ≤ 260
+    few_if_asked false e = let few = cells_few i v in omega (arith, few)
+    few_if_asked true e =
         subst (λ i. length ((arguments ++ shown v) ++ cells i v) ≤ 260) (sym (is_call_is i (and_parts (prints pc) (is_call i) e).1))
         (let none = length-append (arguments ++ shown v) [] in
         let few = shown_few v in
@@ -119,15 +119,15 @@ module _ (prints : ℕ → Bool) (most : ℕ) (few : (i : Inst) (pc : ℕ) (v : 
       let sum = length-append before.0 (read_at s) in
       let less = before.1 in
       let now = read_few s in
-      (before.0 ++ read_at s, omega (arith, sum, less, now), λ x e. go x (or_cases (was x) (m s x && not_yet x) e))
+      (before.0 ++ read_at s, omega (arith, sum, less, now), λ x e. before_or_now x (or_cases (was x) (m s x && not_yet x) e))
     where
       old : (x : Cell) → (is_pc x ≡ true) ⊎ (among before.0 x ≡ true) → (is_pc x ≡ true) ⊎ (among (before.0 ++ read_at s) x ≡ true)
       old x (inl p) = inl p
       old x (inr a) = inr (among_append before.0 (read_at s) x ∙ or_left (among before.0 x) (among (read_at s) x) a)
 
-      go : (x : Cell) → (was x ≡ true) ⊎ ((m s x && not_yet x) ≡ true) → (is_pc x ≡ true) ⊎ (among (before.0 ++ read_at s) x ≡ true)
-      go x (inl h) = old x (before.2 x h)
-      go x (inr h) =
+      before_or_now : (x : Cell) → (was x ≡ true) ⊎ ((m s x && not_yet x) ≡ true) → (is_pc x ≡ true) ⊎ (among (before.0 ++ read_at s) x ≡ true)
+      before_or_now x (inl h) = old x (before.2 x h)
+      before_or_now x (inr h) =
           inr (among_append before.0 (read_at s) x
           ∙ or_right (among before.0 x) (among (read_at s) x) (read_is s x (ap (λ (f : Cell → Bool). f x) (sym same) ∙ (and_parts (m s x) (not_yet x) h).0)))
 

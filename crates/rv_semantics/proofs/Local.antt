@@ -147,18 +147,18 @@ module _ (v w : Cell → ℕ) where
     pub output : task_output prints i pc v ≡ task_output prints i pc w
 
   pub same_task : (prints : ℕ → Bool) (i : Inst) (pc : ℕ) → Agree (task_cells prints i pc v) → IsSame prints i pc
-  same_task prints i pc h = by (asks prints i pc) refl
+  same_task prints i pc h = same_if_asked (asks prints i pc) refl
     where
       own : (effect_at i pc v ≡ effect_at i pc w) × (cells i v ≡ cells i w)
       own = same_effect i pc (right_part (cond (asks prints i pc) (arguments ++ shown v) []) (cells i v) h)
 
-      by : (b : Bool) → asks prints i pc ≡ b → IsSame prints i pc
-      by false e = record {
+      same_if_asked : (b : Bool) → asks prints i pc ≡ b → IsSame prints i pc
+      same_if_asked false e = record {
         effect = ap (λ b. cond (b && is_short_write v) (next pc ((Reg 10, v (Reg 12)) ∷ [])) (effect_at i pc v)) e ∙ own.0 ∙ ap (λ b. cond (b && is_short_write w) (next pc ((Reg 10, w (Reg 12)) ∷ [])) (effect_at i pc w)) (sym e);
         cells = ap (λ b. cond b (arguments ++ shown v) [] ++ cells i v) e ∙ own.1 ∙ ap (λ b. cond b (arguments ++ shown w) [] ++ cells i w) (sym e);
         output = ap (λ b. cond (b && is_short_write v) (bytes_from (v (Reg 12)) (v (Reg 11)) (bytes_of v)) []) e ∙ ap (λ b. cond (b && is_short_write w) (bytes_from (w (Reg 12)) (w (Reg 11)) (bytes_of w)) []) (sym e);
       }
-      by true e =
+      same_if_asked true e =
           let asked : Agree (arguments ++ shown v) = subst (λ b. Agree (cond b (arguments ++ shown v) [])) e (left_part (cond (asks prints i pc) (arguments ++ shown v) []) (cells i v) h) in
           record {
             effect = λ j. cond (asks prints i pc && short_same asked j) (next pc ((Reg 10, argument 12 asked refl j) ∷ [])) (own.0 j);

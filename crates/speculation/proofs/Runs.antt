@@ -83,11 +83,11 @@ module _ (w : World) (known : IsWorld w) where
 
   -- one event of a running task
   step_counts : (t : Task) → (arrivals w t.base (suc t.steps) ≡ t.count → ⊥) → arrivals w t.base t.steps < t.count → arrivals w t.base (suc t.steps) < t.count
-  step_counts t ne l = go (is_anchor w (moves w.machine t.base (suc t.steps)).pc) ne
+  step_counts t ne l = below_if_anchor (is_anchor w (moves w.machine t.base (suc t.steps)).pc) ne
     where
-      go : (b : Bool) → (cond b 1 0 + arrivals w t.base t.steps ≡ t.count → ⊥) → cond b 1 0 + arrivals w t.base t.steps < t.count
-      go true ne = grind (arith, l, ne)
-      go false ne = omega (arith, l)
+      below_if_anchor : (b : Bool) → (cond b 1 0 + arrivals w t.base t.steps ≡ t.count → ⊥) → cond b 1 0 + arrivals w t.base t.steps < t.count
+      below_if_anchor true ne = grind (arith, l, ne)
+      below_if_anchor false ne = omega (arith, l)
 
   below_next : (P : ℕ → Type 0) (t : ℕ) → ((i : ℕ) → i < t → P i) → P t → (i : ℕ) → i < suc t → P i
   below_next P t below here i l = ⊎_elim (λ (e : i ≡ t). subst P (sym e) here) (λ (h : i < t). below i h) (which i t l)
@@ -105,14 +105,14 @@ module _ (w : World) (known : IsWorld w) where
       (grind (arith, l, ne), step_counts t (eqb-false (arrivals w t.base (suc t.steps)) t.count p) ran.1)
 
   pub advance_keeps : (t : Task) → IsTask w t → t.ending ≡ None → IsTask w (advance w t)
-  advance_keeps t is_task none = go (w.machine.stops (now w t)) refl
+  advance_keeps t is_task none = task_if_stops (w.machine.stops (now w t)) refl
     where
       ran : EndFits w t None
       ran = subst (EndFits w t) none is_task.ended
 
-      go : (b : Bool) → w.machine.stops (now w t) ≡ b → IsTask w (cond b (record t { ending = Some Met }) (record t { steps = suc t.steps; ending = ended_by w t }))
-      go true e = record { quiet = is_task.quiet; within = is_task.within; counted = is_task.counted; ended = (ran.0, ran.1, e) }
-      go false e =
+      task_if_stops : (b : Bool) → w.machine.stops (now w t) ≡ b → IsTask w (cond b (record t { ending = Some Met }) (record t { steps = suc t.steps; ending = ended_by w t }))
+      task_if_stops true e = record { quiet = is_task.quiet; within = is_task.within; counted = is_task.counted; ended = (ran.0, ran.1, e) }
+      task_if_stops false e =
           record {
             quiet = below_next (λ i. w.machine.stops (moves w.machine t.base i) ≡ false) t.steps is_task.quiet e;
             within = ran.0;

@@ -29,11 +29,11 @@ at_notes P a b c d p h =
     is q x e = subst P (sym (eqb-true p q e)) x
 
 at_anchor : (P : ℕ → Type 0) → P 0 → (p : ℕ) → is_anchor (small_world 8 small_start) p ≡ true → P p
-at_anchor P a p e = go (nat_eq p 0) refl e
+at_anchor P a p e = holds_if_zero (nat_eq p 0) refl e
   where
-    go : (b : Bool) → nat_eq p 0 ≡ b → is_some {T = ℕ} (cond b (Some 1) None) ≡ true → P p
-    go true same e = subst P (sym (eqb-true p 0 same)) a
-    go false same e = absurd (true≢false (sym e))
+    holds_if_zero : (b : Bool) → nat_eq p 0 ≡ b → is_some {T = ℕ} (cond b (Some 1) None) ≡ true → P p
+    holds_if_zero true same e = subst P (sym (eqb-true p 0 same)) a
+    holds_if_zero false same e = absurd (true≢false (sym e))
 
 never : {A : Type 0} → false ≡ true → A
 never e = absurd (true≢false (sym e))
@@ -155,11 +155,11 @@ meets =
     }
 
 count_is_one : (p n : ℕ) → w.anchor p ≡ Some n → 0 < n
-count_is_one p n e = go (nat_eq p 0) e
+count_is_one p n e = count_if_zero (nat_eq p 0) e
   where
-    go : (b : Bool) → ◌≡◌ {A = Option ℕ} (cond b (Some 1) None) (Some n) → 0 < n
-    go true e = let same : 1 ≡ n = cc in omega (arith, same)
-    go false e = absurd (cc)
+    count_if_zero : (b : Bool) → ◌≡◌ {A = Option ℕ} (cond b (Some 1) None) (Some n) → 0 < n
+    count_if_zero true e = let same : 1 ≡ n = cc in omega (arith, same)
+    count_if_zero false e = absurd (cc)
 
 pub master_spends : Spends (small_world 8 small_start)
 master_spends = (image_spends w small_words small_image (λ room a. refl)).0

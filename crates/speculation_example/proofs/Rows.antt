@@ -67,11 +67,11 @@ equal_of p v e = eqb-true p v (not-false (nat_eq p v) e)
 
 -- where no recorded cell differs, none is told
 none_told : (recorded : Cell → Option ℕ) (found : Cell → ℕ) → ((x : Cell) → differs recorded found x ≡ false) → differ recorded found ≡ None
-none_told recorded found same = go (differ recorded found) refl
+none_told recorded found same = tells_none (differ recorded found) refl
   where
-    go : (o : Option Differ) → differ recorded found ≡ o → o ≡ None
-    go None e = refl
-    go (Some d) e =
+    tells_none : (o : Option Differ) → differ recorded found ≡ o → o ≡ None
+    tells_none None e = refl
+    tells_none (Some d) e =
         let f = first_told recorded found d e in
         absurd (f.other (equal_of d.predicted (found d.cell) (ap (λ o. is_other o (found d.cell)) (sym f.was_recorded) ∙ same d.cell) ∙ f.is_found))
 

@@ -136,17 +136,17 @@ module _ (w : ℕ → World) (limit : ℕ) (worlds : AreWorlds w limit) where
   reach : (far j : ℕ) (m : Model) → Holds (w j) m → Exchange w j m
       → (k : ℕ) × (k ≤ (5 * limit + 7) * far) × ((is_over (rounds_in w j k m).committed ≡ true) ⊎ (m.position + far ≤ (rounds_in w j k m).position))
   reach zero j m h x = (0, omega arith, inr (omega arith))
-  reach (suc far) j m h x = go (is_over m.committed) refl (λ i n hn xn. reach far i n hn xn)
+  reach (suc far) j m h x = reach_if_over (is_over m.committed) refl (λ i n hn xn. reach far i n hn xn)
     where
       more : (c far j k : ℕ) → j ≤ c → k ≤ c * far → j + k ≤ c * suc far
       more c far j k x y = grind (arith, x, y)
 
-      go : (b : Bool) → is_over m.committed ≡ b
+      reach_if_over : (b : Bool) → is_over m.committed ≡ b
           → ((i : ℕ) (n : Model) → Holds (w i) n → Exchange w i n
           → (k : ℕ) × (k ≤ (5 * limit + 7) * far) × ((is_over (rounds_in w i k n).committed ≡ true) ⊎ (n.position + far ≤ (rounds_in w i k n).position)))
           → (k : ℕ) × (k ≤ (5 * limit + 7) * suc far) × ((is_over (rounds_in w j k m).committed ≡ true) ⊎ (m.position + suc far ≤ (rounds_in w j k m).position))
-      go true over rest = (0, omega arith, inl over)
-      go false going rest =
+      reach_if_over true over rest = (0, omega arith, inl over)
+      reach_if_over false going rest =
           let one = gain j m h x going in
           let n = rounds_in w j one.0 m in
           let all = rest (j + one.0) n (holds_on one.0 j m h x) (exchange_on one.0 j m x) in

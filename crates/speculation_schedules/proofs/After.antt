@@ -72,11 +72,11 @@ module _ (w : World) where
 
   pub ends_by_step : (m : Model) (e : Event) → EndsByStep m (happens w m e).1
   unfolding happens
-  ends_by_step m e = go (is_over m.committed)
+  ends_by_step m e = ends_if_over (is_over m.committed)
     where
-      go : (b : Bool) → EndsByStep m (counted e m.counts (cond b (Idle, m) (going_on w m e))).1
-      go true = inl refl
-      go false = by_event m e
+      ends_if_over : (b : Bool) → EndsByStep m (counted e m.counts (cond b (Idle, m) (going_on w m e))).1
+      ends_if_over true = inl refl
+      ends_if_over false = by_event m e
 
   module _ (known : IsWorld w) (event : ℕ → Event) where
     -- one world alone is a world that gives way to itself

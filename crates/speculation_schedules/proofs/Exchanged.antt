@@ -40,11 +40,11 @@ module _ (w : ℕ → World) (event : ℕ → Event) (ok : AreExchanged w event)
 
   come_next : (far k : ℕ) → has_come far (after_each w event k) ≡ true → has_come far (after_each w event (suc k)) ≡ true
   unfolding after_each
-  come_next far k h = go (or_cases (is_over (after_each w event k).committed) (nat_le far (after_each w event k).position) h)
+  come_next far k h = still_come (or_cases (is_over (after_each w event k).committed) (nat_le far (after_each w event k).position) h)
     where
-      go : (is_over (after_each w event k).committed ≡ true) ⊎ (nat_le far (after_each w event k).position ≡ true) → has_come far (after_each w event (suc k)) ≡ true
-      go (inl over) = or_left _ _ (ap is_over (idle_over (w k) (after_each w event k) (event k) over) ∙ over)
-      go (inr there) = or_right _ _ (le-leb far (after_each w event (suc k)).position (omega (arith, leb-true far (after_each w event k).position there, rises k)))
+      still_come : (is_over (after_each w event k).committed ≡ true) ⊎ (nat_le far (after_each w event k).position ≡ true) → has_come far (after_each w event (suc k)) ≡ true
+      still_come (inl over) = or_left _ _ (ap is_over (idle_over (w k) (after_each w event k) (event k) over) ∙ over)
+      still_come (inr there) = or_right _ _ (le-leb far (after_each w event (suc k)).position (omega (arith, leb-true far (after_each w event k).position there, rises k)))
 
   come_later : (far k d : ℕ) → has_come far (after_each w event k) ≡ true → has_come far (after_each w event (d + k)) ≡ true
   come_later far k zero h = let same : k ≡ 0 + k = omega arith in subst (λ (n : ℕ). has_come far (after_each w event n) ≡ true) same h

@@ -58,18 +58,18 @@ module _ (w : World) where
 
   pub near_event : 0 < w.limit → (m : Model) (e : Event) → AreTasks w m.tasks → Near m (happens w m e).1
   unfolding happens
-  near_event l m e are = go (is_over m.committed)
+  near_event l m e are = near_if_over (is_over m.committed)
     where
-      by : (e : Event) → Near m (going_on w m e).1
-      by Restart = near_restart m m.mode (w.anchor m.committed.arch.pc)
-      by SerialEvent = near_serial l m m.mode
-      by MasterEvent = near_master m m.master
-      by (Slave j) = omega arith
-      by Commit = near_commit m m.tasks are
+      near_going_on : (e : Event) → Near m (going_on w m e).1
+      near_going_on Restart = near_restart m m.mode (w.anchor m.committed.arch.pc)
+      near_going_on SerialEvent = near_serial l m m.mode
+      near_going_on MasterEvent = near_master m m.master
+      near_going_on (Slave j) = omega arith
+      near_going_on Commit = near_commit m m.tasks are
 
-      go : (b : Bool) → Near m (counted e m.counts (cond b (Idle, m) (going_on w m e))).1
-      go true = omega arith
-      go false = by e
+      near_if_over : (b : Bool) → Near m (counted e m.counts (cond b (Idle, m) (going_on w m e))).1
+      near_if_over true = omega arith
+      near_if_over false = near_going_on e
 
 or_false : (a b : Bool) → (a || b) ≡ false → b ≡ false
 or_false false b e = e

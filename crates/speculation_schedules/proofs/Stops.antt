@@ -33,11 +33,11 @@ module _ (w : World) (known : IsWorld w) where
 
   -- what has not come has not come before, either
   not_before : (event : ℕ → Event) (far j k : ℕ) → j ≤ k → has_come far (after w event k) ≡ false → has_come far (after w event j) ≡ false
-  not_before event far j k l not_yet = go (has_come far (after w event j)) refl
+  not_before event far j k l not_yet = has_not_come (has_come far (after w event j)) refl
     where
-      go : (b : Bool) → has_come far (after w event j) ≡ b → b ≡ false
-      go false e = refl
-      go true e = absurd (let less = before w known event far k j not_yet e in omega (arith, less, l))
+      has_not_come : (b : Bool) → has_come far (after w event j) ≡ b → b ≡ false
+      has_not_come false e = refl
+      has_not_come true e = absurd (let less = before w known event far k j not_yet e in omega (arith, less, l))
 
   alone_goes : (far k : ℕ) → has_come far (after w alone k) ≡ false → OnItsWay k (after w alone k)
   unfolding after
@@ -70,11 +70,11 @@ module _ (w : World) (known : IsWorld w) (models : ℕ → Model) (runs : is_ove
   ends_early (suc k) stop over =
       let not_yet = or_false (is_over (models k).committed) (nat_le far (models k).position) (stop.first k (omega arith)) in
       let less = leb-false far (models k).position not_yet.1 in
-      go not_yet.0 less (ends k)
+      not_past_far not_yet.0 less (ends k)
     where
-      go : is_over (models k).committed ≡ false → (models k).position < far → EndsByStep (models k) (models (suc k)) → (models (suc k)).position ≤ far
-      go going less (inl same) = absurd (true≢false (sym over ∙ ap is_end same ∙ going))
-      go going less (inr one) = omega (arith, less, one)
+      not_past_far : is_over (models k).committed ≡ false → (models k).position < far → EndsByStep (models k) (models (suc k)) → (models (suc k)).position ≤ far
+      not_past_far going less (inl same) = absurd (true≢false (sym over ∙ ap is_end same ∙ going))
+      not_past_far going less (inr one) = omega (arith, less, one)
 
   pub stops_so : (k : ℕ) → IsFirstStop models far k → StopsAt w models far k
   stops_so k stop =
