@@ -36,26 +36,26 @@ serial_mode (Serial debt) e = (debt, refl)
 serial_mode Speculating e = absurd cc
 
 no_round : (n : ℕ) (a b : Bool) → (n ≡ 0 → ⊥) → (eqb n 0 && a && b) ≡ false
-no_round n a b h = go (eqb n 0) refl
+no_round n a b h = if_zero (eqb n 0) refl
   where
-    go : (c : Bool) → eqb n 0 ≡ c → (c && a && b) ≡ false
-    go true e = absurd (h (eqb-true n 0 e))
-    go false e = refl
+    if_zero : (c : Bool) → eqb n 0 ≡ c → (c && a && b) ≡ false
+    if_zero true e = absurd (h (eqb-true n 0 e))
+    if_zero false e = refl
 
 module _ (p : Plan) where
   renewed_model : (a : Stage) → (renewed p a).model ≡ a.model
-  renewed_model a = go (nat_le a.due a.model.position)
+  renewed_model a = if_due (nat_le a.due a.model.position)
     where
-      go : (b : Bool) → (cond b (record { model = a.model; image = unwrap_or (p.made a.model.position) a.image; due = a.model.position + p.every }) a).model ≡ a.model
-      go true = refl
-      go false = refl
+      if_due : (b : Bool) → (cond b (record { model = a.model; image = unwrap_or (p.made a.model.position) a.image; due = a.model.position + p.every }) a).model ≡ a.model
+      if_due true = refl
+      if_due false = refl
 
   pub ready_model : (k : ℕ) (a : Stage) → (ready p k a).model ≡ a.model
-  ready_model k a = go (may_exchange p k a.model)
+  ready_model k a = if_exchanging (may_exchange p k a.model)
     where
-      go : (b : Bool) → (cond b (renewed p a) a).model ≡ a.model
-      go true = renewed_model a
-      go false = refl
+      if_exchanging : (b : Bool) → (cond b (renewed p a) a).model ≡ a.model
+      if_exchanging true = renewed_model a
+      if_exchanging false = refl
 
   -- each event is one of its world, from the model before
   answered : (k : ℕ) → answer_at p k ≡ happens (world_at p k) (adapted p k).model (in_rounds p.slaves k)
@@ -88,12 +88,12 @@ module _ (p : Plan) where
       serial_mode m.mode (and_parts (eqb (k % (p.slaves + 7)) 0) quiet parts.0).1
 
   pub same_or_serial : (k : ℕ) → (image_at p (suc k) ≡ image_at p k) ⊎ ((debt : Bool) × ((adapted p (suc k)).model.mode ≡ Serial debt))
-  same_or_serial k = go (may_exchange p (suc k) (adapted p (suc k)).model) refl
+  same_or_serial k = if_exchanging (may_exchange p (suc k) (adapted p (suc k)).model) refl
     where
-      go : (b : Bool) → may_exchange p (suc k) (adapted p (suc k)).model ≡ b
+      if_exchanging : (b : Bool) → may_exchange p (suc k) (adapted p (suc k)).model ≡ b
           → (image_at p (suc k) ≡ image_at p k) ⊎ ((debt : Bool) × ((adapted p (suc k)).model.mode ≡ Serial debt))
-      go false e = inl (stays k e)
-      go true e = inr (serial (suc k) e)
+      if_exchanging false e = inl (stays k e)
+      if_exchanging true e = inr (serial (suc k) e)
 
   module _ (limit : ℕ) (is_plan : IsPlan p limit) where
     made_is : (o : Option Distilled) (image : Distilled) → ((x : Distilled) → o ≡ Some x → IsUpTo limit x) → IsUpTo limit image → IsUpTo limit (unwrap_or o image)
@@ -101,18 +101,18 @@ module _ (p : Plan) where
     made_is (Some x) image h kept = h x refl
 
     renewed_image : (a : Stage) → IsUpTo limit a.image → IsUpTo limit (renewed p a).image
-    renewed_image a h = go (nat_le a.due a.model.position)
+    renewed_image a h = if_due (nat_le a.due a.model.position)
       where
-        go : (b : Bool) → IsUpTo limit (cond b (record { model = a.model; image = unwrap_or (p.made a.model.position) a.image; due = a.model.position + p.every }) a).image
-        go true = made_is (p.made a.model.position) a.image (is_plan.made a.model.position) h
-        go false = h
+        if_due : (b : Bool) → IsUpTo limit (cond b (record { model = a.model; image = unwrap_or (p.made a.model.position) a.image; due = a.model.position + p.every }) a).image
+        if_due true = made_is (p.made a.model.position) a.image (is_plan.made a.model.position) h
+        if_due false = h
 
     ready_image : (k : ℕ) (a : Stage) → IsUpTo limit a.image → IsUpTo limit (ready p k a).image
-    ready_image k a h = go (may_exchange p k a.model)
+    ready_image k a h = if_exchanging (may_exchange p k a.model)
       where
-        go : (b : Bool) → IsUpTo limit (cond b (renewed p a) a).image
-        go true = renewed_image a h
-        go false = h
+        if_exchanging : (b : Bool) → IsUpTo limit (cond b (renewed p a) a).image
+        if_exchanging true = renewed_image a h
+        if_exchanging false = h
 
     is_image : (k : ℕ) → IsUpTo limit (adapted p k).image
     unfolding adapted

@@ -18,12 +18,12 @@ early_push due limit (x ∷ ws) w e l = (e.0, early_push due limit ws w e.1 l)
 
 pub early_lower : (due limit : ℕ) (ws : List Waiting) → IsEarly due limit ws → IsEarly due limit (lowered ws)
 early_lower due limit [] e = tt
-early_lower due limit (w ∷ ws) e = go (nat_eq w.left 1) (early_lower due limit ws e.1)
+early_lower due limit (w ∷ ws) e = if_last (nat_eq w.left 1) (early_lower due limit ws e.1)
   where
-    go : (b : Bool) → IsEarly due limit (lowered ws)
+    if_last : (b : Bool) → IsEarly due limit (lowered ws)
         → IsEarly due limit (map lower (cond (not b) (w ∷ filter (λ (w : Waiting). not (nat_eq w.left 1)) ws) (filter (λ (w : Waiting). not (nat_eq w.left 1)) ws)))
-    go true rest = rest
-    go false rest = (e.0, rest)
+    if_last true rest = rest
+    if_last false rest = (e.0, rest)
 
 pub early_none : (due limit j : ℕ) (ws : List Waiting) → IsEarly due limit ws → j < due → false ≡ is_overdue limit j ws
 early_none due limit j [] e l = refl
@@ -40,16 +40,16 @@ shown_push arrivals since count [] some =
     let left : arrivals + count - arrivals ≡ count = omega arith in
     ap (λ b. cond b (record { since = since; left = arrivals + count - arrivals } ∷ []) []) (lt-ltb arrivals (arrivals + count) (omega (arith, some)))
     ∙ ap (λ n. record { since = since; left = n } ∷ []) left
-shown_push arrivals since count (w ∷ ws) some = go (nat_lt arrivals w.last) (shown_push arrivals since count ws some)
+shown_push arrivals since count (w ∷ ws) some = if_waiting (nat_lt arrivals w.last) (shown_push arrivals since count ws some)
   where
     new : Wait
     new = record { since = since; last = arrivals + count }
 
-    go : (b : Bool) → shown_in arrivals (ws ++ new ∷ []) ≡ shown_in arrivals ws ++ record { since = since; left = count } ∷ []
+    if_waiting : (b : Bool) → shown_in arrivals (ws ++ new ∷ []) ≡ shown_in arrivals ws ++ record { since = since; left = count } ∷ []
         → cond b (record { since = w.since; left = w.last - arrivals } ∷ shown_in arrivals (ws ++ new ∷ [])) (shown_in arrivals (ws ++ new ∷ []))
         ≡ cond b (record { since = w.since; left = w.last - arrivals } ∷ shown_in arrivals ws) (shown_in arrivals ws) ++ record { since = since; left = count } ∷ []
-    go true e = ap (λ xs. record { since = w.since; left = w.last - arrivals } ∷ xs) e
-    go false e = e
+    if_waiting true e = ap (λ xs. record { since = w.since; left = w.last - arrivals } ∷ xs) e
+    if_waiting false e = e
 
 at_last : (arrivals last : ℕ) → nat_lt arrivals last ≡ true → nat_eq (last - arrivals) 1 ≡ true → nat_lt (arrivals + 1) last ≡ false
 at_last arrivals last l e = let one = eqb-true (last - arrivals) 1 e in le-ltb (arrivals + 1) last (omega (arith, one))
@@ -63,7 +63,7 @@ past arrivals last l = let high = ltb-false arrivals last l in le-ltb (arrivals 
 -- an arrival lowers those that wait
 pub shown_next : (arrivals : ℕ) (ws : List Wait) → shown_in (arrivals + 1) ws ≡ lowered (shown_in arrivals ws)
 shown_next arrivals [] = refl
-shown_next arrivals (w ∷ ws) = go (nat_lt arrivals w.last) refl (shown_next arrivals ws)
+shown_next arrivals (w ∷ ws) = if_waiting (nat_lt arrivals w.last) refl (shown_next arrivals ws)
   where
     x : Waiting
     x = record { since = w.since; left = w.last - arrivals }
@@ -79,35 +79,35 @@ shown_next arrivals (w ∷ ws) = go (nat_lt arrivals w.last) refl (shown_next ar
         ∙ ap (λ n. record { since = w.since; left = n } ∷ shown_in (arrivals + 1) ws) less
         ∙ ap (λ xs. lower x ∷ xs) rest
 
-    go : (b : Bool) → nat_lt arrivals w.last ≡ b → shown_in (arrivals + 1) ws ≡ lowered (shown_in arrivals ws)
+    if_waiting : (b : Bool) → nat_lt arrivals w.last ≡ b → shown_in (arrivals + 1) ws ≡ lowered (shown_in arrivals ws)
         → cond (nat_lt (arrivals + 1) w.last) (record { since = w.since; left = w.last - (arrivals + 1) } ∷ shown_in (arrivals + 1) ws) (shown_in (arrivals + 1) ws)
         ≡ lowered (cond b (x ∷ shown_in arrivals ws) (shown_in arrivals ws))
-    go true l rest = first (nat_eq (w.last - arrivals) 1) l refl rest
-    go false l rest = ap (λ t. cond t (record { since = w.since; left = w.last - (arrivals + 1) } ∷ shown_in (arrivals + 1) ws) (shown_in (arrivals + 1) ws)) (past arrivals w.last l) ∙ rest
+    if_waiting true l rest = first (nat_eq (w.last - arrivals) 1) l refl rest
+    if_waiting false l rest = ap (λ t. cond t (record { since = w.since; left = w.last - (arrivals + 1) } ∷ shown_in (arrivals + 1) ws) (shown_in (arrivals + 1) ws)) (past arrivals w.last l) ∙ rest
 
 -- those that wait no more are not shown
 pub shown_waiting : (arrivals : ℕ) (ws : List Wait) → shown_in arrivals (filter (λ (w : Wait). nat_lt arrivals w.last) ws) ≡ shown_in arrivals ws
 shown_waiting arrivals [] = refl
-shown_waiting arrivals (w ∷ ws) = go (nat_lt arrivals w.last) refl (shown_waiting arrivals ws)
+shown_waiting arrivals (w ∷ ws) = if_waiting (nat_lt arrivals w.last) refl (shown_waiting arrivals ws)
   where
     rest : List Wait
     rest = filter (λ (w : Wait). nat_lt arrivals w.last) ws
 
-    go : (b : Bool) → nat_lt arrivals w.last ≡ b → shown_in arrivals rest ≡ shown_in arrivals ws
+    if_waiting : (b : Bool) → nat_lt arrivals w.last ≡ b → shown_in arrivals rest ≡ shown_in arrivals ws
         → shown_in arrivals (cond b (w ∷ rest) rest) ≡ cond b (record { since = w.since; left = w.last - arrivals } ∷ shown_in arrivals ws) (shown_in arrivals ws)
-    go true e same =
+    if_waiting true e same =
         ap (λ t. cond t (record { since = w.since; left = w.last - arrivals } ∷ shown_in arrivals rest) (shown_in arrivals rest)) e
         ∙ ap (λ xs. record { since = w.since; left = w.last - arrivals } ∷ xs) same
-    go false e same = same
+    if_waiting false e same = same
 
 early_shown : (due limit arrivals i : ℕ) (ws : List Wait) (d : Wait) → i < length ws → due ≤ (get_or ws i d).since + limit
     → IsEarly due limit (shown_in arrivals (drop (suc i) ws)) → IsEarly due limit (shown_in arrivals (drop i ws))
 early_shown due limit arrivals i [] d l h e = absurd (omega (arith, l))
-early_shown due limit arrivals zero (w ∷ ws) d l h e = go (nat_lt arrivals w.last)
+early_shown due limit arrivals zero (w ∷ ws) d l h e = if_waiting (nat_lt arrivals w.last)
   where
-    go : (b : Bool) → IsEarly due limit (cond b (record { since = w.since; left = w.last - arrivals } ∷ shown_in arrivals ws) (shown_in arrivals ws))
-    go true = (h, e)
-    go false = e
+    if_waiting : (b : Bool) → IsEarly due limit (cond b (record { since = w.since; left = w.last - arrivals } ∷ shown_in arrivals ws) (shown_in arrivals ws))
+    if_waiting true = (h, e)
+    if_waiting false = e
 early_shown due limit arrivals (suc i) (w ∷ ws) d l h e = early_shown due limit arrivals i ws d (omega (arith, l)) h e
 
 -- the position at which the one at a place is due, or less
@@ -125,12 +125,12 @@ some_shown arrivals k [] d l h = absurd (omega (arith, l))
 some_shown arrivals zero (w ∷ ws) d l h =
     ap (λ b. nat_lt 0 (length (cond b (record { since = w.since; left = w.last - arrivals } ∷ shown_in arrivals ws) (shown_in arrivals ws)))) (lt-ltb arrivals w.last h)
     ∙ lt-ltb 0 (suc (length (shown_in arrivals ws))) (omega arith)
-some_shown arrivals (suc k) (w ∷ ws) d l h = go (nat_lt arrivals w.last) (some_shown arrivals k ws d (omega (arith, l)) h)
+some_shown arrivals (suc k) (w ∷ ws) d l h = if_waiting (nat_lt arrivals w.last) (some_shown arrivals k ws d (omega (arith, l)) h)
   where
-    go : (b : Bool) → nat_lt 0 (length (shown_in arrivals ws)) ≡ true
+    if_waiting : (b : Bool) → nat_lt 0 (length (shown_in arrivals ws)) ≡ true
         → nat_lt 0 (length (cond b (record { since = w.since; left = w.last - arrivals } ∷ shown_in arrivals ws) (shown_in arrivals ws))) ≡ true
-    go true e = lt-ltb 0 (suc (length (shown_in arrivals ws))) (omega arith)
-    go false e = e
+    if_waiting true e = lt-ltb 0 (suc (length (shown_in arrivals ws))) (omega arith)
+    if_waiting false e = e
 
 -- one that waits no more is not
 pub none_shown : (arrivals k : ℕ) (ws : List Wait) (d : Wait) → k < length ws → (get_or ws k d).last ≤ arrivals

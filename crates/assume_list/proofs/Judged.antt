@@ -35,33 +35,33 @@ span_is (Same at value) h = absurd (true≢false (sym h))
 -- the number of the first that is Span is that of one that is
 span_there : (n k : ℕ) (xs : List Premise) → first_from is_span n xs ≡ Some k → (d : ℕ) × (n + d ≡ k) × (slice_get xs d ≡ Some Span)
 span_there n k [] e = absurd (cc)
-span_there n k (x ∷ xs) e = go (is_span x) refl e (span_there (suc n) k xs)
+span_there n k (x ∷ xs) e = if_span (is_span x) refl e (span_there (suc n) k xs)
   where
-    go : (b : Bool) → is_span x ≡ b → cond b (Some n) (first_from is_span (suc n) xs) ≡ Some k
+    if_span : (b : Bool) → is_span x ≡ b → cond b (Some n) (first_from is_span (suc n) xs) ≡ Some k
         → (first_from is_span (suc n) xs ≡ Some k → (d : ℕ) × (suc n + d ≡ k) × (slice_get xs d ≡ Some Span)) → (d : ℕ) × (n + d ≡ k) × (slice_get (x ∷ xs) d ≡ Some Span)
-    go true t e rest = let same : n ≡ k = number_is n k e in (0, omega (arith, same), ap Some (span_is x t))
-    go false t e rest = let r = rest e in let next = r.1 in (suc r.0, omega (arith, next), r.2)
+    if_span true t e rest = let same : n ≡ k = number_is n k e in (0, omega (arith, same), ap Some (span_is x t))
+    if_span false t e rest = let r = rest e in let next = r.1 in (suc r.0, omega (arith, next), r.2)
 
 span_nowhere : (n : ℕ) (xs : List Premise) → first_from is_span n xs ≡ None → (d : ℕ) → slice_get xs d ≡ Some Span → ⊥
 span_nowhere n [] e d at = absurd (cc)
-span_nowhere n (x ∷ xs) e d at = go (is_span x) refl e d at (λ h i f. span_nowhere (suc n) xs h i f)
+span_nowhere n (x ∷ xs) e d at = if_span (is_span x) refl e d at (λ h i f. span_nowhere (suc n) xs h i f)
   where
-    go : (b : Bool) → is_span x ≡ b → cond b (Some n) (first_from is_span (suc n) xs) ≡ None → (d : ℕ) → slice_get (x ∷ xs) d ≡ Some Span
+    if_span : (b : Bool) → is_span x ≡ b → cond b (Some n) (first_from is_span (suc n) xs) ≡ None → (d : ℕ) → slice_get (x ∷ xs) d ≡ Some Span
         → (first_from is_span (suc n) xs ≡ None → (i : ℕ) → slice_get xs i ≡ Some Span → ⊥) → ⊥
-    go true t e d at rest = absurd (cc)
-    go false t e zero at rest = true≢false (ap is_span (sym (premise_is x Span at)) ∙ t)
-    go false t e (suc d) at rest = rest e d at
+    if_span true t e d at rest = absurd (cc)
+    if_span false t e zero at rest = true≢false (ap is_span (sym (premise_is x Span at)) ∙ t)
+    if_span false t e (suc d) at rest = rest e d at
 
 -- and no one before it is Span
 span_first : (n k d : ℕ) (xs : List Premise) → first_from is_span n xs ≡ Some k → slice_get xs d ≡ Some Span → k ≤ n + d
 span_first n k d [] e at = absurd (cc)
-span_first n k d (x ∷ xs) e at = go (is_span x) refl e d at (λ h i f. span_first (suc n) k i xs h f)
+span_first n k d (x ∷ xs) e at = if_span (is_span x) refl e d at (λ h i f. span_first (suc n) k i xs h f)
   where
-    go : (b : Bool) → is_span x ≡ b → cond b (Some n) (first_from is_span (suc n) xs) ≡ Some k → (d : ℕ) → slice_get (x ∷ xs) d ≡ Some Span
+    if_span : (b : Bool) → is_span x ≡ b → cond b (Some n) (first_from is_span (suc n) xs) ≡ Some k → (d : ℕ) → slice_get (x ∷ xs) d ≡ Some Span
         → (first_from is_span (suc n) xs ≡ Some k → (i : ℕ) → slice_get xs i ≡ Some Span → k ≤ suc n + i) → k ≤ n + d
-    go true t e d at rest = let same : n ≡ k = number_is n k e in omega (arith, same)
-    go false t e zero at rest = absurd (true≢false (ap is_span (sym (premise_is x Span at)) ∙ t))
-    go false t e (suc d) at rest = let r = rest e d at in omega (arith, r)
+    if_span true t e d at rest = let same : n ≡ k = number_is n k e in omega (arith, same)
+    if_span false t e zero at rest = absurd (true≢false (ap is_span (sym (premise_is x Span at)) ∙ t))
+    if_span false t e (suc d) at rest = let r = rest e d at in omega (arith, r)
 
 -- Span is told of below this bound: below the budget where it is listed, at this number first, and else nowhere
 pub record IsBound (image : Distilled) (budget bound span : ℕ) : Type 0 where
@@ -90,18 +90,18 @@ told_bound image budget None e = record {
 
 -- Span is asked about at a position itself only where it is listed before the first other that fails there
 asked_here : (k span position i : ℕ) → i < asked_below k span position → (i < position) ⊎ ((i ≡ position) × (span < k))
-asked_here k span position i l = go (nat_lt span k) refl l
+asked_here k span position i l = if_asked (nat_lt span k) refl l
   where
-    go : (b : Bool) → nat_lt span k ≡ b → i < cond b (position + 1) position → (i < position) ⊎ ((i ≡ position) × (span < k))
-    go true e l = ⊎_elim (λ (s : i ≡ position). inr (s, ltb-true span k e)) (λ (ne : i ≡ position → ⊥). inl (omega (arith, l, ne))) (cases_eq i position)
-    go false e l = inl l
+    if_asked : (b : Bool) → nat_lt span k ≡ b → i < cond b (position + 1) position → (i < position) ⊎ ((i ≡ position) × (span < k))
+    if_asked true e l = ⊎_elim (λ (s : i ≡ position). inr (s, ltb-true span k e)) (λ (ne : i ≡ position → ⊥). inl (omega (arith, l, ne))) (cases_eq i position)
+    if_asked false e l = inl l
 
 asked_all : (k span position : ℕ) → position ≤ asked_below k span position
-asked_all k span position = go (nat_lt span k)
+asked_all k span position = if_asked (nat_lt span k)
   where
-    go : (b : Bool) → position ≤ cond b (position + 1) position
-    go true = omega arith
-    go false = omega arith
+    if_asked : (b : Bool) → position ≤ cond b (position + 1) position
+    if_asked true = omega arith
+    if_asked false = omega arith
 
 asked_too : (k span position : ℕ) → span < k → position < asked_below k span position
 asked_too k span position l = subst (λ b. position < cond b (position + 1) position) (sym (lt-ltb span k l)) (omega arith)

@@ -57,11 +57,11 @@ stays_dead (Code ∷ xs) m a h = stays_dead xs m a h
 stays_dead (Within ∷ xs) m a h = stays_dead xs m a h
 stays_dead (Span ∷ xs) m a h = stays_dead xs m a h
 stays_dead (Same at value ∷ xs) m a h = stays_dead xs m a h
-stays_dead (Dead at ∷ xs) m a h = stays_dead xs (λ b. cond (nat_eq at b) 1 (m b)) a (go (nat_eq at a))
+stays_dead (Dead at ∷ xs) m a h = stays_dead xs (λ b. cond (nat_eq at b) 1 (m b)) a (if_claimed (nat_eq at a))
   where
-    go : (t : Bool) → nat_eq (cond t 1 (m a)) 0 ≡ false
-    go true = refl
-    go false = h
+    if_claimed : (t : Bool) → nat_eq (cond t 1 (m a)) 0 ≡ false
+    if_claimed true = refl
+    if_claimed false = h
 
 here_dead : (xs : List Premise) (m : ℕ → ℕ) (p at : ℕ) → p ≡ at → nat_eq (with_dead xs (λ b. cond (nat_eq p b) 1 (m b)) at) 0 ≡ false
 here_dead xs m p at e = stays_dead xs (λ b. cond (nat_eq p b) 1 (m b)) at (ap (λ t. nat_eq (cond t 1 (m at)) 0) (eq-eqb p at e))
@@ -90,11 +90,11 @@ listed_dead (Dead p ∷ xs) m (suc k) at e = listed_dead xs (λ b. cond (nat_eq 
 
 same_count : (dead : ℕ → ℕ) (w at : ℕ) → nat_eq (dead at) 0 ≡ false → nat_eq (counted dead w) (at + 1) ≡ nat_eq w (at + 1)
 same_count dead zero at h = refl
-same_count dead (suc pc) at h = go (nat_eq (dead pc) 0) refl
+same_count dead (suc pc) at h = if_not_dead (nat_eq (dead pc) 0) refl
   where
-    go : (b : Bool) → nat_eq (dead pc) 0 ≡ b → nat_eq (cond b 0 (suc pc)) (at + 1) ≡ nat_eq (suc pc) (at + 1)
-    go false e = refl
-    go true e =
+    if_not_dead : (b : Bool) → nat_eq (dead pc) 0 ≡ b → nat_eq (cond b 0 (suc pc)) (at + 1) ≡ nat_eq (suc pc) (at + 1)
+    if_not_dead false e = refl
+    if_not_dead true e =
         ne_eqb 0 (at + 1) (λ (z : 0 ≡ at + 1). omega (arith, z))
         ∙ sym (ne_eqb (suc pc) (at + 1) (λ (s : suc pc ≡ at + 1).
         let same : pc ≡ at = omega (arith, s) in
@@ -112,9 +112,9 @@ among_counted dead marks writers e (p ∷ ps) at h =
 pub counted_on : (dead marks writers : ℕ → ℕ) → ((a : ℕ) → marks a ≡ counted dead (writers a)) → (s : State) (a : ℕ)
     → marks_after dead s marks a
     ≡ counted dead (cond (among (bytes_in (stored (meaning (word_at s.arch)) s)) a) (cond (is_store (meaning (word_at s.arch))) (s.arch.pc + 1) 0) (writers a))
-counted_on dead marks writers e s a = go (among (bytes_in (stored (meaning (word_at s.arch)) s)) a) (is_store (meaning (word_at s.arch)))
+counted_on dead marks writers e s a = if_written (among (bytes_in (stored (meaning (word_at s.arch)) s)) a) (is_store (meaning (word_at s.arch)))
   where
-    go : (b c : Bool) → cond b (cond c (counted dead (s.arch.pc + 1)) 0) (marks a) ≡ counted dead (cond b (cond c (s.arch.pc + 1) 0) (writers a))
-    go true true = refl
-    go true false = refl
-    go false c = e a
+    if_written : (b c : Bool) → cond b (cond c (counted dead (s.arch.pc + 1)) 0) (marks a) ≡ counted dead (cond b (cond c (s.arch.pc + 1) 0) (writers a))
+    if_written true true = refl
+    if_written true false = refl
+    if_written false c = e a

@@ -71,7 +71,7 @@ plain_stops s h =
 -- a call that a task does goes on
 pub stops_is : (prints : ℕ → Bool) (s : State) → is_over s ≡ false
     → (machine_in prints).stops s.arch ≡ (is_stopping_call prints (meaning (word_at s.arch)) s.arch || is_over (step s))
-stops_is prints s h = go (is_task_call prints i s.arch.pc v) refl
+stops_is prints s h = if_task_call (is_task_call prints i s.arch.pc v) refl
   where
     i : Inst
     i = meaning (word_at s.arch)
@@ -90,8 +90,8 @@ stops_is prints s h = go (is_task_call prints i s.arch.pc v) refl
     none true = refl
     none false = refl
 
-    go : (b : Bool) → is_task_call prints i s.arch.pc v ≡ b → stops_by b ≡ ((is_call i && not b) || is_over (step s))
-    go false e = plain_stops s h ∙ ap (λ c. c || is_over (step s)) (alone (is_call i))
-    go true e =
+    if_task_call : (b : Bool) → is_task_call prints i s.arch.pc v ≡ b → stops_by b ≡ ((is_call i && not b) || is_over (step s))
+    if_task_call false e = plain_stops s h ∙ ap (λ c. c || is_over (step s)) (alone (is_call i))
+    if_task_call true e =
         let on : is_over (step s) ≡ false = ap is_over (moves prints s h (ap stops_by e)) ∙ h in
         sym on ∙ ap (λ c. c || is_over (step s)) (none (is_call i))

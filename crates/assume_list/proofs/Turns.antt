@@ -100,11 +100,11 @@ module _ (start : State) (image : Distilled) where
   ]
 
   pub not_before : (k span j : ℕ) → j ≤ asked_below k span j
-  not_before k span j = go (nat_lt span k)
+  not_before k span j = if_asked (nat_lt span k)
     where
-      go : (b : Bool) → j ≤ cond b (j + 1) j
-      go true = omega arith
-      go false = omega arith
+      if_asked : (b : Bool) → j ≤ cond b (j + 1) j
+      if_asked true = omega arith
+      if_asked false = omega arith
 
   pub reached_after : (first : Option ℕ) (span bound j : ℕ) (s : State) (ws : List Waiting) → IsReached start image bound j s ws → IsReached start image (bound_after first span bound j) j s ws
   reached_after None span bound j s ws r = r
@@ -206,14 +206,14 @@ module _ (start : State) (image : Distilled) where
   none_later : IsImage image → (fuel bound p : ℕ) → bound + image.limit ≤ p + fuel → bound ≤ p → waiting start image bound p ≡ [] → IsSearched start image bound p → IsAwaited start image bound None
   none_later valid zero bound p far past none searched = far_before valid bound p (is_over (state_at start p)) refl searched (omega (arith, far))
   none_later valid (suc fuel) bound p far past none searched =
-      go (is_over (state_at start p)) refl (λ e. none_later valid fuel bound (suc p) (omega (arith, far)) (omega (arith, past)) (no_more_wait bound p past none) (record {
+      if_over (is_over (state_at start p)) refl (λ e. none_later valid fuel bound (suc p) (omega (arith, far)) (omega (arith, past)) (no_more_wait bound p past none) (record {
         going = λ i l. ⊎_elim (λ (s : i ≡ p). subst (λ n. is_over (state_at start n) ≡ false) (sym s) e) (λ (ne : i ≡ p → ⊥). searched.going i (omega (arith, l, ne))) (cases_eq i p);
         none = λ i l. ⊎_elim (λ (s : i ≡ p). subst (λ n. overdue start image bound n ≡ false) (sym s) (none_overdue bound p past none)) (λ (ne : i ≡ p → ⊥). searched.none i (omega (arith, l, ne))) (cases_eq i p);
       }))
     where
-      go : (o : Bool) → is_over (state_at start p) ≡ o → (is_over (state_at start p) ≡ false → IsAwaited start image bound None) → IsAwaited start image bound None
-      go true e later = over_before valid bound p searched e
-      go false e later = later e
+      if_over : (o : Bool) → is_over (state_at start p) ≡ o → (is_over (state_at start p) ≡ false → IsAwaited start image bound None) → IsAwaited start image bound None
+      if_over true e later = over_before valid bound p searched e
+      if_over false e later = later e
 
   -- a step past the bound is taken while an anchor waits
   pub awake_on : (bound from j k : ℕ) (s : State) (ws : List Waiting) → IsReached start image bound j s ws → k ≡ j + 1 → (bound ≤ j → ws ≡ [] → ⊥)

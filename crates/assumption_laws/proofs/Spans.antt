@@ -51,15 +51,15 @@ module _ (start : State) (image : Distilled) where
       → (is_anchor (suc j) ≡ false → comes start image steps left (suc j) ≡ true)
       → comes start image (suc steps) left j ≡ true
   unfolding comes
-  comes_on steps left j going there other = or_right (stop_at j) _ (and_from _ _ (not_from_false _ going) (go (is_anchor (suc j)) there other))
+  comes_on steps left j going there other = or_right (stop_at j) _ (and_from _ _ (not_from_false _ going) (if_anchor (is_anchor (suc j)) there other))
     where
-      go : (b : Bool) → (b ≡ true → (left ≡ 1 → ⊥) → comes start image steps (left - 1) (suc j) ≡ true) → (b ≡ false → comes start image steps left (suc j) ≡ true)
+      if_anchor : (b : Bool) → (b ≡ true → (left ≡ 1 → ⊥) → comes start image steps (left - 1) (suc j) ≡ true) → (b ≡ false → comes start image steps left (suc j) ≡ true)
           → cond b (nat_eq left 1 || comes start image steps (left - 1) (suc j)) (comes start image steps left (suc j)) ≡ true
-      go true there other = ⊎_elim
+      if_anchor true there other = ⊎_elim
           (λ (e : left ≡ 1). or_left (nat_eq left 1) _ (eq-eqb left 1 e))
           (λ (ne : left ≡ 1 → ⊥). or_right (nat_eq left 1) _ (there refl ne))
           (cases_eq left 1)
-      go false there other = other refl
+      if_anchor false there other = other refl
 
   pub comes_at_stop : (steps left j : ℕ) → stop_at j ≡ true → comes start image (suc steps) left j ≡ true
   unfolding comes
@@ -145,16 +145,16 @@ module _ (start : State) (image : Distilled) where
     spanned (suc steps) left t all count_is some going h = ⊎_elim
         (λ (e : stop_at (i + t) ≡ true). inr (t, record { near = omega (arith, all); going = going; stops = e }))
         (λ (p : (over start (suc (i + t)) ≡ false) × (goes_on (is_anchor (suc (i + t))) steps left (suc (i + t)) ≡ true)).
-        go (λ fewer number more goes c. spanned steps fewer (suc t) (omega (arith, all)) number more goes c) (is_anchor (suc (i + t))) refl p.0 p.1)
+        if_anchor (λ fewer number more goes c. spanned steps fewer (suc t) (omega (arith, all)) number more goes c) (is_anchor (suc (i + t))) refl p.0 p.1)
         (comes_cases steps left (i + t) h)
       where
         on : over start (suc (i + t)) ≡ false → over start (i + suc t) ≡ false
         on e = subst (λ n. over start n ≡ false) (next_is t) e
 
-        go : ((fewer : ℕ) → arrived (suc t) + fewer ≡ count → 1 ≤ fewer → over start (i + suc t) ≡ false → comes start image steps fewer (i + suc t) ≡ true → IsSpanned start image i count)
+        if_anchor : ((fewer : ℕ) → arrived (suc t) + fewer ≡ count → 1 ≤ fewer → over start (i + suc t) ≡ false → comes start image steps fewer (i + suc t) ≡ true → IsSpanned start image i count)
             → (b : Bool) → is_anchor (suc (i + t)) ≡ b → over start (suc (i + t)) ≡ false
             → goes_on b steps left (suc (i + t)) ≡ true → IsSpanned start image i count
-        go rest_of true there e f = ⊎_elim
+        if_anchor rest_of true there e f = ⊎_elim
             (λ (last : left ≡ 1).
             let more = arrived_at t there in
             inl (
@@ -172,7 +172,7 @@ module _ (start : State) (image : Distilled) where
             let rest = ⊎_elim (λ (one : nat_eq left 1 ≡ true). absurd (ne (eqb-true left 1 one))) (λ (c : comes start image steps (left - 1) (suc (i + t)) ≡ true). c) (or_cases (nat_eq left 1) _ f) in
             rest_of (left - 1) (omega (arith, more, count_is, some)) (omega (arith, ne, some)) (on e) (from_next steps (left - 1) t rest))
             (cases_eq left 1)
-        go rest_of false there e f =
+        if_anchor rest_of false there e f =
             let same = arrived_not t there in
             rest_of left (omega (arith, same, count_is)) some (on e) (from_next steps left t f)
 
@@ -207,11 +207,11 @@ steps_tell start image i count going some = told start image i count going some
 -- anchors are counted from 1
 pub counts_from_1 : (image : Distilled) → IsImage image → (o : Option ℕ) (c : ℕ) → option_map (λ (a : Anchor). a.count) (entry image.anchors o) ≡ Some c → 1 ≤ c
 counts_from_1 image valid None c e = absurd (cc)
-counts_from_1 image valid (Some k) c e = go (slice_get image.anchors k) refl e
+counts_from_1 image valid (Some k) c e = if_listed (slice_get image.anchors k) refl e
   where
-    go : (a : Option Anchor) → slice_get image.anchors k ≡ a → option_map (λ (a : Anchor). a.count) a ≡ Some c → 1 ≤ c
-    go None h e = absurd (cc)
-    go (Some a) h e =
+    if_listed : (a : Option Anchor) → slice_get image.anchors k ≡ a → option_map (λ (a : Anchor). a.count) a ≡ Some c → 1 ≤ c
+    if_listed None h e = absurd (cc)
+    if_listed (Some a) h e =
         let l : k < length image.anchors = slice_get_within image.anchors k a h in
         let p : IsAnchor (length image.slots) a = subst (IsAnchor (length image.slots)) (get_or_from_slice_get image.anchors k a a h) (valid.anchors k a l) in
         subst (λ n. 1 ≤ n) (some_same a.count c e) p.2

@@ -18,13 +18,13 @@ some_is a b e = cc
 
 none_passes : (test : Premise → Bool) (n : ℕ) (xs : List Premise) → first_from test n xs ≡ None → (j : ℕ) (x : Premise) → slice_get xs j ≡ Some x → test x ≡ false
 none_passes test n [] e j x at = absurd (cc)
-none_passes test n (y ∷ xs) e j x at = go (test y) refl e j at (λ d i f. none_passes test (suc n) xs d i x f)
+none_passes test n (y ∷ xs) e j x at = if_passing (test y) refl e j at (λ d i f. none_passes test (suc n) xs d i x f)
   where
-    go : (b : Bool) → test y ≡ b → cond b (Some n) (first_from test (suc n) xs) ≡ None → (j : ℕ) → slice_get (y ∷ xs) j ≡ Some x
+    if_passing : (b : Bool) → test y ≡ b → cond b (Some n) (first_from test (suc n) xs) ≡ None → (j : ℕ) → slice_get (y ∷ xs) j ≡ Some x
         → (first_from test (suc n) xs ≡ None → (i : ℕ) → slice_get xs i ≡ Some x → test x ≡ false) → test x ≡ false
-    go true t e j at rest = absurd (cc)
-    go false t e zero at rest = ap test (sym (some_is y x at)) ∙ t
-    go false t e (suc j) at rest = rest e j at
+    if_passing true t e j at rest = absurd (cc)
+    if_passing false t e zero at rest = ap test (sym (some_is y x at)) ∙ t
+    if_passing false t e (suc j) at rest = rest e j at
 
 -- entry d of the list passes, and none before it
 record IsFirst (test : Premise → Bool) (xs : List Premise) (d : ℕ) : Type 0 where
@@ -35,14 +35,14 @@ record IsFirst (test : Premise → Bool) (xs : List Premise) (d : ℕ) : Type 0 
 
 first_passes : (test : Premise → Bool) (n k : ℕ) (xs : List Premise) → first_from test n xs ≡ Some k → (d : ℕ) × (n + d ≡ k) × IsFirst test xs d
 first_passes test n k [] e = absurd (cc)
-first_passes test n k (y ∷ xs) e = go (test y) refl e (first_passes test (suc n) k xs)
+first_passes test n k (y ∷ xs) e = if_passing (test y) refl e (first_passes test (suc n) k xs)
   where
-    go : (b : Bool) → test y ≡ b → cond b (Some n) (first_from test (suc n) xs) ≡ Some k
+    if_passing : (b : Bool) → test y ≡ b → cond b (Some n) (first_from test (suc n) xs) ≡ Some k
         → (first_from test (suc n) xs ≡ Some k → (d : ℕ) × (suc n + d ≡ k) × IsFirst test xs d) → (d : ℕ) × (n + d ≡ k) × IsFirst test (y ∷ xs) d
-    go true t e rest =
+    if_passing true t e rest =
         let same : n ≡ k = some_is n k e in
         (0, omega (arith, same), record { found = y; there = refl; passes = t; before = λ j x l at. absurd (omega (arith, l)) })
-    go false t e rest =
+    if_passing false t e rest =
         let r = rest e in
         let next = r.1 in (
           suc r.0,

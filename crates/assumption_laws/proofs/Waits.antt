@@ -116,12 +116,12 @@ module _ (start : State) (image : Distilled) (bound : ℕ) where
   each_lower j stop going there [] all h = tt
   each_lower j stop going there (w ∷ ws) all h =
       let p = or_parts (nat_eq (w.since + image.limit) j) (is_overdue image.limit j ws) h in
-      go (nat_eq w.left 1) refl (λ more. ahead_lower w j stop going there all.0 p.0 more) (each_lower j stop going there ws all.1 p.1)
+      if_last (nat_eq w.left 1) refl (λ more. ahead_lower w j stop going there all.0 p.0 more) (each_lower j stop going there ws all.1 p.1)
     where
-      go : (b : Bool) → nat_eq w.left 1 ≡ b → (nat_eq w.left 1 ≡ false → Ahead (suc j) (lower w)) → OfEach (Ahead (suc j)) (lowered ws)
+      if_last : (b : Bool) → nat_eq w.left 1 ≡ b → (nat_eq w.left 1 ≡ false → Ahead (suc j) (lower w)) → OfEach (Ahead (suc j)) (lowered ws)
           → OfEach (Ahead (suc j)) (map lower (cond (not b) (w ∷ filter (λ (w : Waiting). not (nat_eq w.left 1)) ws) (filter (λ (w : Waiting). not (nat_eq w.left 1)) ws)))
-      go true e first others = others
-      go false e first others = (first e, others)
+      if_last true e first others = others
+      if_last false e first others = (first e, others)
 
   -- what fails still waits
   has_lower : (j i : ℕ) → stop_at start image j ≡ false → is_over (state_at start (suc j)) ≡ false → is_anchor start image (suc j) ≡ true → span_fails start image i ≡ true
@@ -129,19 +129,19 @@ module _ (start : State) (image : Distilled) (bound : ℕ) where
   has_lower j i stop going there fails [] all h hs = absurd (true≢false (sym hs))
   has_lower j i stop going there fails (w ∷ ws) all h hs =
       let p = or_parts (nat_eq (w.since + image.limit) j) (is_overdue image.limit j ws) h in
-      go (nat_eq w.left 1) refl (told_lower w j stop going there all.0 p.0) (λ e. has_lower j i stop going there fails ws all.1 p.1 e) (or_cases (nat_eq w.since i) (has i ws) hs)
+      if_last (nat_eq w.left 1) refl (told_lower w j stop going there all.0 p.0) (λ e. has_lower j i stop going there fails ws all.1 p.1 e) (or_cases (nat_eq w.since i) (has i ws) hs)
     where
-      go : (b : Bool) → nat_eq w.left 1 ≡ b
+      if_last : (b : Bool) → nat_eq w.left 1 ≡ b
           → span_fails start image w.since ≡ not (nat_eq w.left 1 || comes start image (w.since + image.limit - suc j) (w.left - 1) (suc j))
           → (has i ws ≡ true → has i (lowered ws) ≡ true) → (nat_eq w.since i ≡ true) ⊎ (has i ws ≡ true)
           → has i (map lower (cond (not b) (w ∷ filter (λ (w : Waiting). not (nat_eq w.left 1)) ws) (filter (λ (w : Waiting). not (nat_eq w.left 1)) ws))) ≡ true
-      go true e told others where_is = ⊎_elim
+      if_last true e told others where_is = ⊎_elim
           (λ (s : nat_eq w.since i ≡ true).
           let done : span_fails start image w.since ≡ false = told ∙ ap (λ b. not (b || comes start image (w.since + image.limit - suc j) (w.left - 1) (suc j))) e in
           absurd (true≢false (sym fails ∙ ap (span_fails start image) (sym (eqb-true w.since i s)) ∙ done)))
           others
           where_is
-      go false e told others where_is = ⊎_elim (λ (s : nat_eq w.since i ≡ true). or_left (nat_eq w.since i) _ s) (λ (s : has i ws ≡ true). or_right (nat_eq w.since i) _ (others s)) where_is
+      if_last false e told others where_is = ⊎_elim (λ (s : nat_eq w.since i ≡ true). or_left (nat_eq w.since i) _ s) (λ (s : has i ws ≡ true). or_right (nat_eq w.since i) _ (others s)) where_is
 
   has_stop : (j i : ℕ) → stop_at start image j ≡ true → span_fails start image i ≡ true
       → (ws : List Waiting) → OfEach (Ahead j) ws → is_overdue image.limit j ws ≡ false → has i ws ≡ true → ⊥
@@ -158,7 +158,7 @@ module _ (start : State) (image : Distilled) (bound : ℕ) where
   -- the one at j, if there is one
   each_join : IsImage image → (j : ℕ) (o : Option ℕ) (ws : List Waiting) → count_of image (pc_at start j) ≡ o → OfEach (Ahead j) ws → OfEach (Ahead j) (joined bound j o ws)
   each_join valid j None ws e all = all
-  each_join valid j (Some count) ws e all = go (nat_lt j bound) refl
+  each_join valid j (Some count) ws e all = if_within (nat_lt j bound) refl
     where
       new : nat_lt j bound ≡ true → Ahead j (record { since = j; left = count })
       new l = record {
@@ -171,25 +171,25 @@ module _ (start : State) (image : Distilled) (bound : ℕ) where
             subst (λ n. span_fails start image j ≡ not (comes start image n count j)) all_left (ap (λ o. is_late start image o j) e));
       }
 
-      go : (b : Bool) → nat_lt j bound ≡ b → OfEach (Ahead j) (cond b (ws ++ record { since = j; left = count } ∷ []) ws)
-      go true l = each_push (Ahead j) ws _ all (new l)
-      go false l = all
+      if_within : (b : Bool) → nat_lt j bound ≡ b → OfEach (Ahead j) (cond b (ws ++ record { since = j; left = count } ∷ []) ws)
+      if_within true l = each_push (Ahead j) ws _ all (new l)
+      if_within false l = all
 
   has_join_old : (i j : ℕ) (o : Option ℕ) (ws : List Waiting) → has i ws ≡ true → has i (joined bound j o ws) ≡ true
   has_join_old i j None ws h = h
-  has_join_old i j (Some count) ws h = go (nat_lt j bound)
+  has_join_old i j (Some count) ws h = if_within (nat_lt j bound)
     where
-      go : (b : Bool) → has i (cond b (ws ++ record { since = j; left = count } ∷ []) ws) ≡ true
-      go true = any_push_old (λ (w : Waiting). nat_eq w.since i) ws _ h
-      go false = h
+      if_within : (b : Bool) → has i (cond b (ws ++ record { since = j; left = count } ∷ []) ws) ≡ true
+      if_within true = any_push_old (λ (w : Waiting). nat_eq w.since i) ws _ h
+      if_within false = h
 
   has_join_new : (j : ℕ) (o : Option ℕ) (ws : List Waiting) → count_of image (pc_at start j) ≡ o → j < bound → span_fails start image j ≡ true → has j (joined bound j o ws) ≡ true
   has_join_new j None ws e l fails = absurd (true≢false (sym fails ∙ ap (λ o. is_late start image o j) e))
-  has_join_new j (Some count) ws e l fails = go (nat_lt j bound) (lt-ltb j bound l)
+  has_join_new j (Some count) ws e l fails = if_within (nat_lt j bound) (lt-ltb j bound l)
     where
-      go : (b : Bool) → b ≡ true → has j (cond b (ws ++ record { since = j; left = count } ∷ []) ws) ≡ true
-      go true h = any_push_new (λ (w : Waiting). nat_eq w.since j) ws (record { since = j; left = count }) (eq-eqb j j refl)
-      go false h = absurd (true≢false (sym h))
+      if_within : (b : Bool) → b ≡ true → has j (cond b (ws ++ record { since = j; left = count } ∷ []) ws) ≡ true
+      if_within true h = any_push_new (λ (w : Waiting). nat_eq w.since j) ws (record { since = j; left = count }) (eq-eqb j j refl)
+      if_within false h = absurd (true≢false (sym h))
 
   -- each one that waits is not told yet, and whatever fails waits
   record IsTold (j : ℕ) (before : ℕ) (ws : List Waiting) : Type 0 where
@@ -224,11 +224,11 @@ module _ (start : State) (image : Distilled) (bound : ℕ) where
       (hand valid j (waits valid j before (s.going j (omega arith))))
 
   over_by_stop : (k : ℕ) → is_over (state_at start k) ≡ false → is_over (state_at start (suc k)) ≡ true → stop_at start image k ≡ true
-  over_by_stop k going over = go (stop_at start image k) refl
+  over_by_stop k going over = must_stop (stop_at start image k) refl
     where
-      go : (b : Bool) → stop_at start image k ≡ b → b ≡ true
-      go true e = refl
-      go false e = absurd (true≢false (sym over ∙ ap is_over (moves (prints_at image) (state_at start k) going e) ∙ going))
+      must_stop : (b : Bool) → stop_at start image k ≡ b → b ≡ true
+      must_stop true e = refl
+      must_stop false e = absurd (true≢false (sym over ∙ ap is_over (moves (prints_at image) (state_at start k) going e) ∙ going))
 
   late : IsImage image → (j : ℕ) → IsSearched start image bound j → is_over (state_at start j) ≡ false → overdue start image bound j ≡ true
       → (i : ℕ) × (i + image.limit ≡ j) × (i < bound) × (span_fails start image i ≡ true) × ((h : ℕ) → h < i → span_fails start image h ≡ false)

@@ -12,10 +12,10 @@ use Rattle.fitting.specs.Claims.{among}
 use Rattle.certify.specs.Ways.{IsJoined}
 
 pub in_both : (a b r : ℕ) → in_mask (bit_or a b) r ≡ (in_mask a r || in_mask b r)
-in_both a b r = ap (λ n. nat_eq n 1) (bit_at_or a b r) ∙ go (bit_at a r) (bit_at b r) (omega arith) (omega arith)
+in_both a b r = ap (λ n. nat_eq n 1) (bit_at_or a b r) ∙ bit_in_either (bit_at a r) (bit_at b r) (omega arith) (omega arith)
   where
-    go : (x y : ℕ) → x < 2 → y < 2 → nat_eq (max x y) 1 ≡ (nat_eq x 1 || nat_eq y 1)
-    go x y l m = grind (arith, nat_tests)
+    bit_in_either : (x y : ℕ) → x < 2 → y < 2 → nat_eq (max x y) 1 ≡ (nat_eq x 1 || nat_eq y 1)
+    bit_in_either x y l m = grind (arith, nat_tests)
 
 alone : (b : Bool) → b ≡ (b || false)
 alone true = refl

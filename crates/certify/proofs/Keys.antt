@@ -83,7 +83,7 @@ module _ (pc : ℕ) (small : pc < 2 ^ 32) where
 looked_up : {A : Type 0} (what : Premise → Option (ℕ × A)) (pc key : ℕ) (ps : List Premise) → AllByRecursion (λ p. is_at place pc (what p) ≡ (key_of p == key)) ps
     → lookup (nat_eq pc) (filter_map what ps) ≡ option_and_then (λ p. option_map claim (what p)) (keyed key ps)
 looked_up what pc key [] h = refl
-looked_up {A} what pc key (p ∷ ps) h = by (what p) (key_of p == key) refl h.0 (looked_up what pc key ps h.1)
+looked_up {A} what pc key (p ∷ ps) h = at_first (what p) (key_of p == key) refl h.0 (looked_up what pc key ps h.1)
   where
     found : (e : ℕ × A) (t b : Bool) → nat_eq pc e.0 ≡ t → t ≡ b → what p ≡ Some e
         → lookup (nat_eq pc) (filter_map what ps) ≡ option_and_then (λ p. option_map claim (what p)) (keyed key ps)
@@ -93,23 +93,23 @@ looked_up {A} what pc key (p ∷ ps) h = by (what p) (key_of p == key) refl h.0 
     found e true false f g h more = absurd (true≢false g)
     found e false true f g h more = absurd (true≢false (sym g))
 
-    by : (o : Option (ℕ × A)) (b : Bool) → what p ≡ o → is_at place pc o ≡ b
+    at_first : (o : Option (ℕ × A)) (b : Bool) → what p ≡ o → is_at place pc o ≡ b
         → lookup (nat_eq pc) (filter_map what ps) ≡ option_and_then (λ p. option_map claim (what p)) (keyed key ps)
         → lookup (nat_eq pc) (cons_option o (filter_map what ps)) ≡ option_and_then (λ p. option_map claim (what p)) (cond b (Some p) (keyed key ps))
-    by None true e f more = absurd (true≢false (sym f))
-    by None false e f more = more
-    by (Some x) b e f more = found x (nat_eq pc x.0) b refl f e more
+    at_first None true e f more = absurd (true≢false (sym f))
+    at_first None false e f more = more
+    at_first (Some x) b e f more = found x (nat_eq pc x.0) b refl f e more
 
 marked : (pc key : ℕ) (ps : List Premise) → AllByRecursion (λ p. is_at itself pc (as_dead p) ≡ (key_of p == key)) ps → among (filter_map as_dead ps) pc ≡ is_some (keyed key ps)
 marked pc key [] h = refl
-marked pc key (p ∷ ps) h = by (as_dead p) (key_of p == key) h.0 (marked pc key ps h.1)
+marked pc key (p ∷ ps) h = at_first (as_dead p) (key_of p == key) h.0 (marked pc key ps h.1)
   where
-    by : (o : Option ℕ) (b : Bool) → is_at itself pc o ≡ b → among (filter_map as_dead ps) pc ≡ is_some (keyed key ps)
+    at_first : (o : Option ℕ) (b : Bool) → is_at itself pc o ≡ b → among (filter_map as_dead ps) pc ≡ is_some (keyed key ps)
         → among (cons_option o (filter_map as_dead ps)) pc ≡ is_some (cond b (Some p) (keyed key ps))
-    by None true f more = absurd (true≢false (sym f))
-    by None false f more = more
-    by (Some at) true f more = ap (λ b. b || among (filter_map as_dead ps) pc) (turned at pc ∙ f)
-    by (Some at) false f more = ap (λ b. b || among (filter_map as_dead ps) pc) (turned at pc ∙ f) ∙ more
+    at_first None true f more = absurd (true≢false (sym f))
+    at_first None false f more = more
+    at_first (Some at) true f more = ap (λ b. b || among (filter_map as_dead ps) pc) (turned at pc ∙ f)
+    at_first (Some at) false f more = ap (λ b. b || among (filter_map as_dead ps) pc) (turned at pc ∙ f) ∙ more
 
 -- ---- the assumptions that speak of no single pc
 
@@ -142,11 +142,11 @@ only_span (Same at value) l e = absurd (omega (arith, l, e))
 
 key_lists : (q : Premise) → ((p : Premise) → IsNear p → key_of p ≡ key_of q → p ≡ q) → (ps : List Premise) → AllByRecursion IsPremise ps → is_some (keyed (key_of q) ps) ≡ true → IsListed ps q
 key_lists q alone [] h e = absurd (true≢false (sym e))
-key_lists q alone (p ∷ ps) h e = by (key_of p == key_of q) refl (key_lists q alone ps h.1) e
+key_lists q alone (p ∷ ps) h e = at_first (key_of p == key_of q) refl (key_lists q alone ps h.1) e
   where
-    by : (b : Bool) → (key_of p == key_of q) ≡ b → (is_some (keyed (key_of q) ps) ≡ true → IsListed ps q) → is_some (cond b (Some p) (keyed (key_of q) ps)) ≡ true → IsListed (p ∷ ps) q
-    by true f more g = (0, ap Some (alone p h.0.0.1 (eqb-true (key_of p) (key_of q) f)))
-    by false f more g = let rest = more g in (suc rest.0, rest.1)
+    at_first : (b : Bool) → (key_of p == key_of q) ≡ b → (is_some (keyed (key_of q) ps) ≡ true → IsListed ps q) → is_some (cond b (Some p) (keyed (key_of q) ps)) ≡ true → IsListed (p ∷ ps) q
+    at_first true f more g = (0, ap Some (alone p h.0.0.1 (eqb-true (key_of p) (key_of q) f)))
+    at_first false f more g = let rest = more g in (suc rest.0, rest.1)
 
 list_has_key : (q : Premise) (ps : List Premise) (k : ℕ) → slice_get ps k ≡ Some q → is_some (keyed (key_of q) ps) ≡ true
 list_has_key q [] k e = absurd (cc)
@@ -154,11 +154,11 @@ list_has_key q (p ∷ ps) zero e = ap (λ b. is_some (cond b (Some p) (keyed (ke
   where
     same : (x y : Premise) → ◌≡◌ {A = Option Premise} (Some x) (Some y) → x ≡ y
     same x y e = cc
-list_has_key q (p ∷ ps) (suc k) e = by (key_of p == key_of q) (list_has_key q ps k e)
+list_has_key q (p ∷ ps) (suc k) e = at_first (key_of p == key_of q) (list_has_key q ps k e)
   where
-    by : (b : Bool) → is_some (keyed (key_of q) ps) ≡ true → is_some (cond b (Some p) (keyed (key_of q) ps)) ≡ true
-    by true more = refl
-    by false more = more
+    at_first : (b : Bool) → is_some (keyed (key_of q) ps) ≡ true → is_some (cond b (Some p) (keyed (key_of q) ps)) ≡ true
+    at_first true more = refl
+    at_first false more = more
 
 -- whether the one with this key is listed
 lists_by_key : (q : Premise) → ((p : Premise) → IsNear p → key_of p ≡ key_of q → p ≡ q) → (ps : List Premise) → All IsPremise ps → (is_some (keyed (key_of q) ps) ≡ true) ↔ IsListed ps q

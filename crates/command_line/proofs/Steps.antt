@@ -57,11 +57,11 @@ number_within-wider least most small (Some n) h = grind (arith, nat_tests)
 pub number-given : (table : List (List ℕ × Kind)) (option : List ℕ) (least most : ℕ) → most < 2 ^ 64
     → ((v : List ℕ) → takes table option v ≡ true → is_some (number_within least most v) ≡ true)
     → (words : List (List ℕ)) → are_options table words ≡ true → IsNumberIfGiven option words
-number-given table option least most small numbers words h = go (value_of option words) (takes-given table option words h)
+number-given table option least most small numbers words h = if_given (value_of option words) (takes-given table option words h)
   where
-    go : (o : Option (List ℕ)) → IfSome o (λ v. takes table option v ≡ true) → IfSome o (λ v. IsSome (number_within 0 (2 ^ 64 - 1) v))
-    go None given = given
-    go (Some v) given = number_within-wider least most small (number_of v) (numbers v given)
+    if_given : (o : Option (List ℕ)) → IfSome o (λ v. takes table option v ≡ true) → IfSome o (λ v. IsSome (number_within 0 (2 ^ 64 - 1) v))
+    if_given None given = given
+    if_given (Some v) given = number_within-wider least most small (number_of v) (numbers v given)
 
 -- `--budget` of `run` is a number of 64 bits
 pub budget-given : (words : List (List ℕ)) → are_options run_options words ≡ true → IsNumberIfGiven (codes "--budget") words
@@ -73,16 +73,16 @@ pub number-between : (table : List (List ℕ × Kind)) (option : List ℕ) (leas
     → ((v : List ℕ) → takes table option v ≡ true → is_some (number_within least most v) ≡ true)
     → (words : List (List ℕ)) → are_options table words ≡ true → (least ≤ number_or default option words) × (number_or default option words ≤ most)
 unfolding number_or
-number-between table option least most default low high numbers words h = go (value_of option words) (takes-given table option words h)
+number-between table option least most default low high numbers words h = if_given (value_of option words) (takes-given table option words h)
   where
     between : (n : Option ℕ) → is_some (option_and_then (within least most) n) ≡ true → (least ≤ unwrap_or n default) × (unwrap_or n default ≤ most)
     between None e = (low, high)
     between (Some n) e = (grind (arith, nat_tests), grind (arith, nat_tests))
 
-    go : (o : Option (List ℕ)) → IfSome o (λ v. takes table option v ≡ true)
+    if_given : (o : Option (List ℕ)) → IfSome o (λ v. takes table option v ≡ true)
         → (least ≤ unwrap_or (option_and_then number_of o) default) × (unwrap_or (option_and_then number_of o) default ≤ most)
-    go None given = (low, high)
-    go (Some v) given = between (number_of v) (numbers v given)
+    if_given None given = (low, high)
+    if_given (Some v) given = between (number_of v) (numbers v given)
 
 -- from 1 to 10^12
 pub budget-between : (words : List (List ℕ)) → are_options run_options words ≡ true → (1 ≤ number_or (10 ^ 9) (codes "--budget") words) × (number_or (10 ^ 9) (codes "--budget") words ≤ 10 ^ 12)

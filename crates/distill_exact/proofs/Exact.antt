@@ -83,11 +83,11 @@ module _ (calls : Bool) (start : State) (n : ℕ) (p : Profiled) (image : Distil
       pc = pc_at start i
 
       word_same : {v w : ℕ} → (t : Tally) → ((v ≡ w → ⊥) → ⊥) → v ≡ w
-      word_same {v} {w} t h = go (nat_eq v w) refl
+      word_same {v} {w} t h = if_equal (nat_eq v w) refl
         where
-          go : (b : Bool) → nat_eq v w ≡ b → v ≡ w
-          go true e = eqb-true v w e
-          go false e = absurd (h (eqb-false v w e))
+          if_equal : (b : Bool) → nat_eq v w ≡ b → v ≡ w
+          if_equal true e = eqb-true v w e
+          if_equal false e = absurd (h (eqb-false v w e))
 
   -- so what a task reads at a position the profile takes to be read
   abbrev reads_by : ℕ → ℕ → Bool → Bool
@@ -96,11 +96,11 @@ module _ (calls : Bool) (start : State) (n : ℕ) (p : Profiled) (image : Distil
       || is_cell_of (cond (b && is_call (fetched_at start i)) (arguments ++ shown (value (arch_at start i))) [] ++ cells (fetched_at start i) (value (arch_at start i))) (Byte a)
 
   reads_more : (i a : ℕ) → i < n → (task_machine image).reads (arch_at start i) (Byte a) ≡ true → (machine_in (with_mark calls)).reads (arch_at start i) (Byte a) ≡ true
-  reads_more i a lt h = go (prints_at image (pc_at start i)) refl h
+  reads_more i a lt h = if_printing (prints_at image (pc_at start i)) refl h
     where
-      go : (b : Bool) → prints_at image (pc_at start i) ≡ b → reads_by i a b ≡ true → reads_by i a calls ≡ true
-      go true e h = ap (reads_by i a) (has_mark i lt e) ∙ h
-      go false e h = ⊎_elim
+      if_printing : (b : Bool) → prints_at image (pc_at start i) ≡ b → reads_by i a b ≡ true → reads_by i a calls ≡ true
+      if_printing true e h = ap (reads_by i a) (has_mark i lt e) ∙ h
+      if_printing false e h = ⊎_elim
           (λ (f : is_cell_of (byte_cells 4 (pc_at start i)) (Byte a) ≡ true). or_left _ _ f)
           (λ (f : is_cell_of (cells (fetched_at start i) (value (arch_at start i))) (Byte a) ≡ true).
           or_right (is_cell_of (byte_cells 4 (pc_at start i)) (Byte a)) _

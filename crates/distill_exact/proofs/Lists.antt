@@ -13,20 +13,20 @@ use Rattle.distill_exact.specs.Laws.{ListsFollow}
 -- what is given of each number has P where what is given has it
 pub All-filter_map : {X Y : Type 0} (P : Y → Type 0) (h : X → Option Y) → ((x : X) → IfSome (h x) P) → (xs : List X) → All P (filter_map h xs)
 All-filter_map P h each [] = All-nil P
-All-filter_map {X} {Y} P h each (x ∷ xs) = go (h x) (each x) (All-filter_map P h each xs)
+All-filter_map {X} {Y} P h each (x ∷ xs) = if_picked (h x) (each x) (All-filter_map P h each xs)
   where
-    go : (o : Option Y) → IfSome o P → All P (filter_map h xs) → All P (cons_option o (filter_map h xs))
-    go None here later = later
-    go (Some y) here later = All-cons P y (filter_map h xs) here later
+    if_picked : (o : Option Y) → IfSome o P → All P (filter_map h xs) → All P (cons_option o (filter_map h xs))
+    if_picked None here later = later
+    if_picked (Some y) here later = All-cons P y (filter_map h xs) here later
 
 -- the elements that are left pass
 passing : {X : Type 0} (test : X → Bool) (xs : List X) → All (λ x. test x ≡ true) (filter test xs)
 passing test [] = All-nil (λ x. test x ≡ true)
-passing {X} test (x ∷ xs) = go (test x) refl (passing test xs)
+passing {X} test (x ∷ xs) = if_passing (test x) refl (passing test xs)
   where
-    go : (b : Bool) → test x ≡ b → All (λ x. test x ≡ true) (filter test xs) → All (λ x. test x ≡ true) (cond b (x ∷ filter test xs) (filter test xs))
-    go true e later = All-cons (λ x. test x ≡ true) x (filter test xs) e later
-    go false e later = later
+    if_passing : (b : Bool) → test x ≡ b → All (λ x. test x ≡ true) (filter test xs) → All (λ x. test x ≡ true) (cond b (x ∷ filter test xs) (filter test xs))
+    if_passing true e later = All-cons (λ x. test x ≡ true) x (filter test xs) e later
+    if_passing false e later = later
 
 all_of : {X : Type 0} (P : X → Type 0) → ((x : X) → P x) → (xs : List X) → All P xs
 all_of P each [] = All-nil P
@@ -34,11 +34,11 @@ all_of P each (x ∷ xs) = All-cons P x xs (each x) (all_of P each xs)
 
 module _ (word : ℕ → ℕ) (rows : List Tally) where
   has_side : (rare pc : ℕ) → IfSome (option_map (λ taken. (pc, taken)) (cut_at word rows rare pc)) (λ (e : ℕ × Bool). cut_at word rows rare e.0 ≡ Some e.1)
-  has_side rare pc = go (cut_at word rows rare pc) refl
+  has_side rare pc = if_cut (cut_at word rows rare pc) refl
     where
-      go : (o : Option Bool) → cut_at word rows rare pc ≡ o → IfSome (option_map (λ taken. (pc, taken)) o) (λ (e : ℕ × Bool). cut_at word rows rare e.0 ≡ Some e.1)
-      go None e = tt
-      go (Some side) e = e
+      if_cut : (o : Option Bool) → cut_at word rows rare pc ≡ o → IfSome (option_map (λ taken. (pc, taken)) o) (λ (e : ℕ × Bool). cut_at word rows rare e.0 ≡ Some e.1)
+      if_cut None e = tt
+      if_cut (Some side) e = e
 
   pub lists_follow : ListsFollow word rows
   lists_follow = record {

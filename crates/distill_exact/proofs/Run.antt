@@ -36,11 +36,11 @@ stays s over = ap (λ b. cond b s (cond (machine.stops s.arch) (call s) (record 
 
 -- where no call and no end stands, the run ends no sooner
 pub goes_on : (prints : ℕ → Bool) (s : State) → (machine_in prints).stops s.arch ≡ false → is_over (step s) ≡ is_over s
-goes_on prints s quiet = go (is_over s) refl
+goes_on prints s quiet = if_over (is_over s) refl
   where
-    go : (b : Bool) → is_over s ≡ b → is_over (step s) ≡ is_over s
-    go true e = ap is_over (stays s e)
-    go false e = ap is_over (moves prints s e quiet)
+    if_over : (b : Bool) → is_over s ≡ b → is_over (step s) ≡ is_over s
+    if_over true e = ap is_over (stays s e)
+    if_over false e = ap is_over (moves prints s e quiet)
 
 -- the pc of each position before n is one of the executed ones
 pub executed_among : (start : State) (n i : ℕ) → i < n → among (pcs start n) (pc_at start i) ≡ true

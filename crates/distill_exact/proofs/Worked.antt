@@ -20,11 +20,11 @@ rare = record { rare = refl; fails = (refl, refl, refl); at_zero = refl }
 
 one_step : IsNotedAs (noting 0x00010000) (rows_of exiting 1)
 unfolding call read moved given_values places kept analysed
-one_step pc = go (nat_eq 0x00010000 pc)
+one_step pc = if_noted (nat_eq 0x00010000 pc)
   where
-    go : (b : Bool) → is_some (cond b (Some (note 0x00010000 0 0 0)) None) ≡ (b || false)
-    go true = refl
-    go false = refl
+    if_noted : (b : Bool) → is_some (cond b (Some (note 0x00010000 0 0 0)) None) ≡ (b || false)
+    if_noted true = refl
+    if_noted false = refl
 
 pub within : WithinRows
 unfolding call read moved given_values places kept analysed

@@ -64,13 +64,13 @@ not_write (Illegal word) = refl
 
 pub among_filter : (p : ℕ → Bool) (ns : List ℕ) (q : ℕ) → among (filter p ns) q ≡ (among ns q && p q)
 among_filter p [] q = refl
-among_filter p (n ∷ ns) q = by (p n) refl (nat_eq n q) refl (among_filter p ns q)
+among_filter p (n ∷ ns) q = at_first (p n) refl (nat_eq n q) refl (among_filter p ns q)
   where
-    by : (b : Bool) → p n ≡ b → (e : Bool) → nat_eq n q ≡ e → among (filter p ns) q ≡ (among ns q && p q)
+    at_first : (b : Bool) → p n ≡ b → (e : Bool) → nat_eq n q ≡ e → among (filter p ns) q ≡ (among ns q && p q)
         → among (cond b (n ∷ filter p ns) (filter p ns)) q ≡ ((nat_eq n q || among ns q) && p q)
-    by true f true g more = (λ i. (g i || among (filter p ns) q)) ∙ sym ((λ i. (g i || among ns q) && p q) ∙ (ap p (sym (eqb-true n q g)) ∙ f))
-    by true f false g more = (λ i. (g i || among (filter p ns) q)) ∙ more ∙ (λ i. (sym g i || among ns q) && p q)
-    by false f true g more =
+    at_first true f true g more = (λ i. (g i || among (filter p ns) q)) ∙ sym ((λ i. (g i || among ns q) && p q) ∙ (ap p (sym (eqb-true n q g)) ∙ f))
+    at_first true f false g more = (λ i. (g i || among (filter p ns) q)) ∙ more ∙ (λ i. (sym g i || among ns q) && p q)
+    at_first false f true g more =
         let off : p q ≡ false = ap p (sym (eqb-true n q g)) ∙ f in
         more ∙ ap (λ b. among ns q && b) off ∙ no (among ns q) (nat_eq n q || among ns q) ∙ ap (λ b. (nat_eq n q || among ns q) && b) (sym off)
       where
@@ -79,7 +79,7 @@ among_filter p (n ∷ ns) q = by (p n) refl (nat_eq n q) refl (among_filter p ns
         no true false = refl
         no false true = refl
         no false false = refl
-    by false f false g more = more ∙ (λ i. (sym g i || among ns q) && p q)
+    at_first false f false g more = more ∙ (λ i. (sym g i || among ns q) && p q)
 
 module _ (word : ℕ → ℕ) (rows : List Tally) where
   pub targets_only : (q : ℕ) → among (analysed rows) q ≡ false → targets_of word rows q ≡ None
@@ -112,11 +112,11 @@ module _ (word : ℕ → ℕ) (rows : List Tally) where
 
     sides_of : (pc : ℕ) (i : Inst) (o : Option Tally) (b : Bool) → cut_by rare pc i o ≡ Some b → has_sides pc i ≡ true
     sides_of pc i None b e = cc
-    sides_of pc i (Some t) b e = by (has_sides pc i) e
+    sides_of pc i (Some t) b e = only_with_sides (has_sides pc i) e
       where
-        by : (h : Bool) → cond h (rare_side rare t.executed t.taken) None ≡ Some b → h ≡ true
-        by true e = refl
-        by false e = cc
+        only_with_sides : (h : Bool) → cond h (rare_side rare t.executed t.taken) None ≡ Some b → h ≡ true
+        only_with_sides true e = refl
+        only_with_sides false e = cc
 
     -- a branch that is cut has two sides
     pub has_sides_cut : (pc : ℕ) (b : Bool) → (claims word rows (cuts word rows rare)).cut pc ≡ Some b → has_sides pc (meaning (word pc)) ≡ true

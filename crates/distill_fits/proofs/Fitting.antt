@@ -99,7 +99,7 @@ module _ (word : ℕ → ℕ) (rows : List Tally) (rare : ℕ) (same : List (ℕ
     claimed_value k = made.valued word rows c begun count limit pc there (ap (λ (p : SlotPlan). p.kept) is ∙ k)
 
     done : l.plot.kept ≡ true → IsDone word image n
-    done k = by value refl
+    done k = done_by_value value refl
       where
         set_by : (v : ℕ) → value ≡ Some v → (o : Option ℕ) → set_word (Some v) inst ≡ o → IsSome o → IsDone word image n
         set_by v g None f some = cc
@@ -107,9 +107,9 @@ module _ (word : ℕ → ℕ) (rows : List Tally) (rare : ℕ) (same : List (ℕ
             let is_w : set_word value inst ≡ Some w = ap (λ o. set_word o inst) g ∙ f in
             inr (w, ap (λ o. set_word o inst) (claimed_value k) ∙ is_w, laid_there k ∙ ap (λ o. Some (Exec pc (unwrap_or o (word pc)))) is_w)
 
-        by : (o : Option ℕ) → value ≡ o → IsDone word image n
-        by None g = inl (laid_there k ∙ ap (λ o. Some (Exec pc (unwrap_or (set_word o inst) (word pc)))) g)
-        by (Some v) g = set_by v g (set_word (Some v) inst) refl (load_of v g).0
+        done_by_value : (o : Option ℕ) → value ≡ o → IsDone word image n
+        done_by_value None g = inl (laid_there k ∙ ap (λ o. Some (Exec pc (unwrap_or (set_word o inst) (word pc)))) g)
+        done_by_value (Some v) g = set_by v g (set_word (Some v) inst) refl (load_of v g).0
 
     no_word_done : l.plot.kept ≡ false → (w : ℕ) → slice_get image.slots (body_place image n) ≡ Some (Exec pc w) → ⊥
     no_word_done k w x = removed_not_done ps order i (body_place image n) w l e k (x ∙ ap (λ (p : SlotPlan). Some (Exec p.pc w)) is)
@@ -131,7 +131,7 @@ module _ (word : ℕ → ℕ) (rows : List Tally) (rare : ℕ) (same : List (ℕ
 
     -- a load whose own word is done is not set: no word that sets a register is a load
     unset : IsKept word image n → is_some value ≡ false
-    unset x = by value refl
+    unset x = no_value value refl
       where
         set_by : (v : ℕ) → value ≡ Some v → (o : Option ℕ) → set_word (Some v) inst ≡ o → IsSome o → ⊥
         set_by v g None f some = cc
@@ -141,9 +141,9 @@ module _ (word : ℕ → ℕ) (rows : List Tally) (rare : ℕ) (same : List (ℕ
             let own : word pc ≡ w = same_exec pc (word pc) w laid in
             not_itself v (word pc) (load_of v g).1 (small pc) (f ∙ ap (λ w. Some w) (sym own))
 
-        by : (o : Option ℕ) → value ≡ o → is_some value ≡ false
-        by None g = ap (λ (o : Option ℕ). is_some o) g
-        by (Some v) g = absurd (set_by v g (set_word (Some v) inst) refl (load_of v g).0)
+        no_value : (o : Option ℕ) → value ≡ o → is_some value ≡ false
+        no_value None g = ap (λ (o : Option ℕ). is_some o) g
+        no_value (Some v) g = absurd (set_by v g (set_word (Some v) inst) refl (load_of v g).0)
 
     -- ---- where the master goes on
 

@@ -22,15 +22,15 @@ found_from : (i : ℕ) (as' : List Anchor) (q : ℕ) (all : List Anchor) → ((k
     → is_some (count_at all (anchor_from i as' q)) ≡ among (map (λ (a : Anchor). a.pc) as') q
 found_from i [] q all h = refl
 found_from i (a ∷ as') q all h =
-    by (eqb a.pc q) (found_from (i + 1) as' q all (λ k. let at : (i + 1) + k ≡ i + suc k = omega arith in ap (slice_get all) at ∙ h (suc k)))
+    at_first (eqb a.pc q) (found_from (i + 1) as' q all (λ k. let at : (i + 1) + k ≡ i + suc k = omega arith in ap (slice_get all) at ∙ h (suc k)))
   where
     here : is_some (count_at all (Some i)) ≡ true
     here = let at : i ≡ i + 0 = omega arith in ap (λ o. is_some (option_map (λ (a : Anchor). a.count) o)) (ap (slice_get all) at ∙ h 0)
 
-    by : (b : Bool) → is_some (count_at all (anchor_from (i + 1) as' q)) ≡ among (map (λ (a : Anchor). a.pc) as') q
+    at_first : (b : Bool) → is_some (count_at all (anchor_from (i + 1) as' q)) ≡ among (map (λ (a : Anchor). a.pc) as') q
         → is_some (count_at all (cond b (Some i) (anchor_from (i + 1) as' q))) ≡ (b || among (map (λ (a : Anchor). a.pc) as') q)
-    by true rest = here
-    by false rest = rest
+    at_first true rest = here
+    at_first false rest = rest
 
 pub is_anchor_among : (image : Distilled) (q : ℕ) → is_anchor_pc image q ≡ among (map (λ (a : Anchor). a.pc) image.anchors) q
 is_anchor_among image q = found_from 0 image.anchors q image.anchors (λ k. let at : 0 + k ≡ k = omega arith in ap (slice_get image.anchors) at)

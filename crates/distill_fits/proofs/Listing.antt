@@ -62,11 +62,11 @@ same_of_dead (pc ∷ pcs) = same_of_dead pcs
 -- what is looked for is found where it is among these
 pub found_among : (ws : List ℕ) (q : ℕ) → is_some (find (λ w. eqb w q) ws) ≡ among ws q
 found_among [] q = refl
-found_among (n ∷ ns) q = by (eqb n q) (find (λ w. eqb w q) ns) (found_among ns q)
+found_among (n ∷ ns) q = at_first (eqb n q) (find (λ w. eqb w q) ns) (found_among ns q)
   where
-    by : (b : Bool) (o : Option ℕ) → is_some o ≡ among ns q → is_some (cond b (Some n) o) ≡ (b || among ns q)
-    by true o rest = refl
-    by false o rest = rest
+    at_first : (b : Bool) (o : Option ℕ) → is_some o ≡ among ns q → is_some (cond b (Some n) o) ≡ (b || among ns q)
+    at_first true o rest = refl
+    at_first false o rest = rest
 
 abbrev pub targets_of : (ℕ → ℕ) → List Tally → ℕ → Option (List ℕ)
 targets_of word rows pc = targets_by (meaning (word pc)) (analysed_row rows pc)
@@ -80,36 +80,36 @@ module _ (word : ℕ → ℕ) (rows : List Tally) (c : Cuts) where
 
   cuts_of_targets : (pcs : List ℕ) → filter_map as_cut (target_premises pcs) ≡ []
   cuts_of_targets [] = refl
-  cuts_of_targets (pc ∷ pcs) = by (targets_at pc) (cuts_of_targets pcs)
+  cuts_of_targets (pc ∷ pcs) = still_no_cuts (targets_at pc) (cuts_of_targets pcs)
     where
-      by : (o : Option (List ℕ)) → filter_map as_cut (target_premises pcs) ≡ [] → filter_map as_cut (cons_option (option_map (Targets pc) o) (target_premises pcs)) ≡ []
-      by None rest = rest
-      by (Some to) rest = rest
+      still_no_cuts : (o : Option (List ℕ)) → filter_map as_cut (target_premises pcs) ≡ [] → filter_map as_cut (cons_option (option_map (Targets pc) o) (target_premises pcs)) ≡ []
+      still_no_cuts None rest = rest
+      still_no_cuts (Some to) rest = rest
 
   dead_of_targets : (pcs : List ℕ) → filter_map as_dead (target_premises pcs) ≡ []
   dead_of_targets [] = refl
-  dead_of_targets (pc ∷ pcs) = by (targets_at pc) (dead_of_targets pcs)
+  dead_of_targets (pc ∷ pcs) = still_no_dead (targets_at pc) (dead_of_targets pcs)
     where
-      by : (o : Option (List ℕ)) → filter_map as_dead (target_premises pcs) ≡ [] → filter_map as_dead (cons_option (option_map (Targets pc) o) (target_premises pcs)) ≡ []
-      by None rest = rest
-      by (Some to) rest = rest
+      still_no_dead : (o : Option (List ℕ)) → filter_map as_dead (target_premises pcs) ≡ [] → filter_map as_dead (cons_option (option_map (Targets pc) o) (target_premises pcs)) ≡ []
+      still_no_dead None rest = rest
+      still_no_dead (Some to) rest = rest
 
   same_of_targets : (pcs : List ℕ) → filter_map as_same (target_premises pcs) ≡ []
   same_of_targets [] = refl
-  same_of_targets (pc ∷ pcs) = by (targets_at pc) (same_of_targets pcs)
+  same_of_targets (pc ∷ pcs) = still_no_same (targets_at pc) (same_of_targets pcs)
     where
-      by : (o : Option (List ℕ)) → filter_map as_same (target_premises pcs) ≡ [] → filter_map as_same (cons_option (option_map (Targets pc) o) (target_premises pcs)) ≡ []
-      by None rest = rest
-      by (Some to) rest = rest
+      still_no_same : (o : Option (List ℕ)) → filter_map as_same (target_premises pcs) ≡ [] → filter_map as_same (cons_option (option_map (Targets pc) o) (target_premises pcs)) ≡ []
+      still_no_same None rest = rest
+      still_no_same (Some to) rest = rest
 
   targets_of_targets : (pcs : List ℕ) → filter_map as_targets (target_premises pcs) ≡ pairs targets_at pcs
   targets_of_targets [] = refl
-  targets_of_targets (pc ∷ pcs) = by (targets_at pc) (targets_of_targets pcs)
+  targets_of_targets (pc ∷ pcs) = if_targeted (targets_at pc) (targets_of_targets pcs)
     where
-      by : (o : Option (List ℕ)) → filter_map as_targets (target_premises pcs) ≡ pairs targets_at pcs
+      if_targeted : (o : Option (List ℕ)) → filter_map as_targets (target_premises pcs) ≡ pairs targets_at pcs
           → filter_map as_targets (cons_option (option_map (Targets pc) o) (target_premises pcs)) ≡ cons_option (option_map (λ to. (pc, to)) o) (pairs targets_at pcs)
-      by None rest = rest
-      by (Some to) rest = ap (λ xs. (pc, to) ∷ xs) rest
+      if_targeted None rest = rest
+      if_targeted (Some to) rest = ap (λ xs. (pc, to) ∷ xs) rest
 
   -- what each kind gives of the whole list
   split : {A : Type 0} (pick : Premise → Option A) (a b d e : List A) → filter_map pick (map cut_premise c.cut) ≡ a → filter_map pick (target_premises (analysed rows)) ≡ b

@@ -32,26 +32,26 @@ module _ (word : ℕ → ℕ) (rows : List Tally) (c : Cuts) (begun : List ℕ) 
   pub is_noted : (qs : List ℕ) (slot number q : ℕ) → is_some (find_note (notes_from slot number qs) q) ≡ among qs q
   is_noted [] slot number q = refl
   is_noted (n ∷ ns) slot number q =
-      by (eqb n q) _ _ (is_noted ns (slot + length (lays known (plot_at word rows c begun t n) number)) (number + length (fork (plot_at word rows c begun t n) number)) q)
+      noted_at_first (eqb n q) _ _ (is_noted ns (slot + length (lays known (plot_at word rows c begun t n) number)) (number + length (fork (plot_at word rows c begun t n) number)) q)
     where
-      by : (b : Bool) (x : Note) (more : Option Note) → is_some more ≡ among ns q → is_some (cond b (Some x) more) ≡ (b || among ns q)
-      by true x more rest = refl
-      by false x more rest = rest
+      noted_at_first : (b : Bool) (x : Note) (more : Option Note) → is_some more ≡ among ns q → is_some (cond b (Some x) more) ≡ (b || among ns q)
+      noted_at_first true x more rest = refl
+      noted_at_first false x more rest = rest
 
   pub live_noted : (qs : List ℕ) (slot number q : ℕ) → unwrap_or (option_map noted_live (find_note (notes_from slot number qs) q)) 0 ≡ look live_of (round_of word rows c begun t qs) q
   live_noted [] slot number q = refl
   live_noted (n ∷ ns) slot number q =
-      by (eqb n q) _ _ _ (live_noted ns (slot + length (lays known (plot_at word rows c begun t n) number)) (number + length (fork (plot_at word rows c begun t n) number)) q)
+      live_at_first (eqb n q) _ _ _ (live_noted ns (slot + length (lays known (plot_at word rows c begun t n) number)) (number + length (fork (plot_at word rows c begun t n) number)) q)
     where
-      by : (b : Bool) (x : Note) (more : Option Note) (k : ℕ) → unwrap_or (option_map noted_live more) 0 ≡ k → unwrap_or (option_map noted_live (cond b (Some x) more)) 0 ≡ cond b x.live k
-      by true x more k rest = refl
-      by false x more k rest = rest
+      live_at_first : (b : Bool) (x : Note) (more : Option Note) (k : ℕ) → unwrap_or (option_map noted_live more) 0 ≡ k → unwrap_or (option_map noted_live (cond b (Some x) more)) 0 ≡ cond b x.live k
+      live_at_first true x more k rest = refl
+      live_at_first false x more k rest = rest
 
   pub need_noted : (qs : List ℕ) (slot number q : ℕ) → unwrap_or (option_map noted_need (find_note (notes_from slot number qs) q)) 0 ≡ look need_of (round_of word rows c begun t qs) q
   need_noted [] slot number q = refl
   need_noted (n ∷ ns) slot number q =
-      by (eqb n q) _ _ _ (need_noted ns (slot + length (lays known (plot_at word rows c begun t n) number)) (number + length (fork (plot_at word rows c begun t n) number)) q)
+      need_at_first (eqb n q) _ _ _ (need_noted ns (slot + length (lays known (plot_at word rows c begun t n) number)) (number + length (fork (plot_at word rows c begun t n) number)) q)
     where
-      by : (b : Bool) (x : Note) (more : Option Note) (k : ℕ) → unwrap_or (option_map noted_need more) 0 ≡ k → unwrap_or (option_map noted_need (cond b (Some x) more)) 0 ≡ cond b x.need k
-      by true x more k rest = refl
-      by false x more k rest = rest
+      need_at_first : (b : Bool) (x : Note) (more : Option Note) (k : ℕ) → unwrap_or (option_map noted_need more) 0 ≡ k → unwrap_or (option_map noted_need (cond b (Some x) more)) 0 ≡ cond b x.need k
+      need_at_first true x more k rest = refl
+      need_at_first false x more k rest = rest

@@ -43,13 +43,13 @@ module _ {A B : Type 0} (pick : A → Option B) where
 
   pub from_picked : (xs : List A) (k : ℕ) (y : B) → slice_get (filter_map pick xs) k ≡ Some y → (x : A) × IsIn xs x × (pick x ≡ Some y)
   from_picked [] k y e = absurd (cc)
-  from_picked (z ∷ zs) k y e = by (pick z) refl k e (λ k e. let x = from_picked zs k y e in (x.0, (suc x.1.0, x.1.1), x.2))
+  from_picked (z ∷ zs) k y e = if_picked (pick z) refl k e (λ k e. let x = from_picked zs k y e in (x.0, (suc x.1.0, x.1.1), x.2))
     where
-      by : (o : Option B) → pick z ≡ o → (k : ℕ) → slice_get (cons_option o (filter_map pick zs)) k ≡ Some y
+      if_picked : (o : Option B) → pick z ≡ o → (k : ℕ) → slice_get (cons_option o (filter_map pick zs)) k ≡ Some y
           → ((k : ℕ) → slice_get (filter_map pick zs) k ≡ Some y → (x : A) × IsIn (z ∷ zs) x × (pick x ≡ Some y)) → (x : A) × IsIn (z ∷ zs) x × (pick x ≡ Some y)
-      by None p k e more = more k e
-      by (Some w) p zero e more = (z, (0, refl), p ∙ e)
-      by (Some w) p (suc k) e more = more k e
+      if_picked None p k e more = more k e
+      if_picked (Some w) p zero e more = (z, (0, refl), p ∙ e)
+      if_picked (Some w) p (suc k) e more = more k e
 
 pub in_among : (qs : List ℕ) (q : ℕ) → among qs q ≡ true → IsIn qs q
 in_among [] q h = absurd (true≢false (sym h))
@@ -63,11 +63,11 @@ in_among (n ∷ ns) q h =
 
 paired : {A : Type 0} (f : ℕ → Option A) (pcs : List ℕ) (q : ℕ) (v : A) → IsIn (pairs f pcs) (q, v) → f q ≡ Some v
 paired {A} f pcs q v h =
-    let x = from_picked (λ pc. option_map (λ v. (pc, v)) (f pc)) pcs h.0 (q, v) h.1 in by x.0 (f x.0) refl x.2
+    let x = from_picked (λ pc. option_map (λ v. (pc, v)) (f pc)) pcs h.0 (q, v) h.1 in from_pair x.0 (f x.0) refl x.2
   where
-    by : (pc : ℕ) (o : Option A) → f pc ≡ o → option_map {U = ℕ × A} (λ (v : A). (pc, v)) o ≡ Some (q, v) → f q ≡ Some v
-    by pc None p e = absurd (cc)
-    by pc (Some w) p e = let is = same_some (pc, w) (q, v) e in (λ i. f (sym is i).0) ∙ p ∙ (λ i. Some (is i).1)
+    from_pair : (pc : ℕ) (o : Option A) → f pc ≡ o → option_map {U = ℕ × A} (λ (v : A). (pc, v)) o ≡ Some (q, v) → f q ≡ Some v
+    from_pair pc None p e = absurd (cc)
+    from_pair pc (Some w) p e = let is = same_some (pc, w) (q, v) e in (λ i. f (sym is i).0) ∙ p ∙ (λ i. Some (is i).1)
 
 in_pairs : {A : Type 0} (f : ℕ → Option A) (pcs : List ℕ) → ((q : ℕ) → among pcs q ≡ false → f q ≡ None) → (q : ℕ) (v : A) → f q ≡ Some v → IsIn (pairs f pcs) (q, v)
 in_pairs {A} f pcs only q v e =
@@ -157,8 +157,8 @@ module _ (word : ℕ → ℕ) (rows : List Tally) (rare : ℕ) (same : List (ℕ
   same_listed_at begun t pc v h =
       let ps = map (plot_at word rows c begun t) (analysed rows) in
       let x = picks as_same (Same pc v) (pc, v) refl (is_same pc v) (list ps) (pairs (value_of word rows c begun t) (analysed rows)) (same_listed word rows c begun t) in
-      by (plot_at word rows c begun t pc).kept (lookup (nat_eq pc) same) (paired (value_of word rows c begun t) (analysed rows) pc v (x.0 h))
+      if_kept (plot_at word rows c begun t pc).kept (lookup (nat_eq pc) same) (paired (value_of word rows c begun t) (analysed rows) pc v (x.0 h))
     where
-      by : (b : Bool) (o : Option ℕ) → cond b o None ≡ Some v → o ≡ Some v
-      by true o e = e
-      by false o e = absurd (cc)
+      if_kept : (b : Bool) (o : Option ℕ) → cond b o None ≡ Some v → o ≡ Some v
+      if_kept true o e = e
+      if_kept false o e = absurd (cc)

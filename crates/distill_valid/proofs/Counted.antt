@@ -30,11 +30,11 @@ ascending_most (n ∷ ns) = let a = put_longer n (ascending ns) in let rest = as
 
 pcs_most : (rows : List Tally) → length (unchanged_pcs rows) ≤ length rows
 pcs_most [] = omega arith
-pcs_most (t ∷ ts) = by t.changed (pcs_most ts)
+pcs_most (t ∷ ts) = most_if_changed t.changed (pcs_most ts)
   where
-    by : (b : Bool) → length (unchanged_pcs ts) ≤ length ts → length (map pc_of (cond (not b) (t ∷ filter is_unchanged ts) (filter is_unchanged ts))) ≤ suc (length ts)
-    by true more = omega (arith, more)
-    by false more = omega (arith, more)
+    most_if_changed : (b : Bool) → length (unchanged_pcs ts) ≤ length ts → length (map pc_of (cond (not b) (t ∷ filter is_unchanged ts) (filter is_unchanged ts))) ≤ suc (length ts)
+    most_if_changed true more = omega (arith, more)
+    most_if_changed false more = omega (arith, more)
 
 pub analysed_most : (rows : List Tally) → length (analysed rows) ≤ length rows
 unfolding analysed
@@ -58,11 +58,11 @@ module _ (h : ℕ → ℕ) where
 
   rows_sum : (g : Tally → ℕ) (rows : List Tally) → AllByRecursion (λ (t : Tally). h t.pc ≤ g t) rows → sum_by h (unchanged_pcs rows) ≤ sum_by g rows
   rows_sum g [] all = omega arith
-  rows_sum g (t ∷ ts) all = by t.changed (rows_sum g ts all.1)
+  rows_sum g (t ∷ ts) all = sum_if_changed t.changed (rows_sum g ts all.1)
     where
-      by : (b : Bool) → sum_by h (unchanged_pcs ts) ≤ sum_by g ts → sum_by h (map pc_of (cond (not b) (t ∷ filter is_unchanged ts) (filter is_unchanged ts))) ≤ sum_by g (t ∷ ts)
-      by true more = let b = sum_by-cons g t ts in omega (arith, b, more)
-      by false more = let a = sum_by-cons h t.pc (unchanged_pcs ts) in let b = sum_by-cons g t ts in omega (arith, a, b, more, all.0)
+      sum_if_changed : (b : Bool) → sum_by h (unchanged_pcs ts) ≤ sum_by g ts → sum_by h (map pc_of (cond (not b) (t ∷ filter is_unchanged ts) (filter is_unchanged ts))) ≤ sum_by g (t ∷ ts)
+      sum_if_changed true more = let b = sum_by-cons g t ts in omega (arith, b, more)
+      sum_if_changed false more = let a = sum_by-cons h t.pc (unchanged_pcs ts) in let b = sum_by-cons g t ts in omega (arith, a, b, more, all.0)
 
   pub analysed_sum : (g : Tally → ℕ) (rows : List Tally) → AllByRecursion (λ (t : Tally). h t.pc ≤ g t) rows → sum_by h (analysed rows) ≤ sum_by g rows
   unfolding analysed
@@ -94,11 +94,11 @@ row_len None = 0
 row_len (Some t) = length t.targets
 
 own_len : (t : Tally) (o : Option Tally) → o ≡ Some t → row_len (unchanged o) ≤ targets_len t
-own_len t o e = subst (λ o. row_len (unchanged o) ≤ targets_len t) (sym e) (by t.changed)
+own_len t o e = subst (λ o. row_len (unchanged o) ≤ targets_len t) (sym e) (if_changed t.changed)
   where
-    by : (b : Bool) → row_len (cond b None (Some t)) ≤ targets_len t
-    by true = omega arith
-    by false = omega arith
+    if_changed : (b : Bool) → row_len (cond b None (Some t)) ≤ targets_len t
+    if_changed true = omega arith
+    if_changed false = omega arith
 
 each_len : (all rows : List Tally) → ((i : ℕ) (t : Tally) → slice_get rows i ≡ Some t → row_at all t.pc ≡ Some t)
     → AllByRecursion (λ (t : Tally). row_len (analysed_row all t.pc) ≤ targets_len t) rows
@@ -118,13 +118,13 @@ by_len i o to e =
 module _ (word : ℕ → ℕ) (rows : List Tally) (rare : ℕ) where
   picked_len : (pcs : List ℕ) → target_count (filter_map (targets_pick word rows rare) pcs) ≤ sum_by (λ pc. row_len (analysed_row rows pc)) pcs
   picked_len [] = omega arith
-  picked_len (pc ∷ pcs) = by (targets_by (meaning (word pc)) (analysed_row rows pc)) refl (picked_len pcs)
+  picked_len (pc ∷ pcs) = if_targeted (targets_by (meaning (word pc)) (analysed_row rows pc)) refl (picked_len pcs)
     where
-      by : (o : Option (List ℕ)) → targets_by (meaning (word pc)) (analysed_row rows pc) ≡ o
+      if_targeted : (o : Option (List ℕ)) → targets_by (meaning (word pc)) (analysed_row rows pc) ≡ o
           → target_count (filter_map (targets_pick word rows rare) pcs) ≤ sum_by (λ pc. row_len (analysed_row rows pc)) pcs
           → target_count (cons_option (option_map (Targets pc) o) (filter_map (targets_pick word rows rare) pcs)) ≤ sum_by (λ pc. row_len (analysed_row rows pc)) (pc ∷ pcs)
-      by None e more = let b = sum_by-cons (λ pc. row_len (analysed_row rows pc)) pc pcs in omega (arith, b, more)
-      by (Some to) e more =
+      if_targeted None e more = let b = sum_by-cons (λ pc. row_len (analysed_row rows pc)) pc pcs in omega (arith, b, more)
+      if_targeted (Some to) e more =
           let a = sum_by-cons one_len (Targets pc to) (filter_map (targets_pick word rows rare) pcs) in
           let b = sum_by-cons (λ pc. row_len (analysed_row rows pc)) pc pcs in
           let n = by_len (meaning (word pc)) (analysed_row rows pc) to e in

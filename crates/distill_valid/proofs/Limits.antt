@@ -45,11 +45,11 @@ module _ (word : ℕ → ℕ) (rows : List Tally) (rare : ℕ) (value : ℕ → 
 
   none_len : (pick : ℕ → Option Premise) → ((pc : ℕ) (p : Premise) → pick pc ≡ Some p → one_len p ≡ 0) → (ns : List ℕ) → target_count (filter_map pick ns) ≡ 0
   none_len pick h [] = refl
-  none_len pick h (n ∷ ns) = by (pick n) refl (none_len pick h ns)
+  none_len pick h (n ∷ ns) = if_picked (pick n) refl (none_len pick h ns)
     where
-      by : (o : Option Premise) → pick n ≡ o → target_count (filter_map pick ns) ≡ 0 → target_count (cons_option o (filter_map pick ns)) ≡ 0
-      by None e more = more
-      by (Some p) e more = let a = sum_by-cons one_len p (filter_map pick ns) in let z = h n p e in omega (arith, a, z, more)
+      if_picked : (o : Option Premise) → pick n ≡ o → target_count (filter_map pick ns) ≡ 0 → target_count (cons_option o (filter_map pick ns)) ≡ 0
+      if_picked None e more = more
+      if_picked (Some p) e more = let a = sum_by-cons one_len p (filter_map pick ns) in let z = h n p e in omega (arith, a, z, more)
 
   pub few_targets : IsDistinct nat_eq (map pc_of rows) → target_count (all_listed word rows rare value) ≤ profile.target_count rows
   few_targets distinct =

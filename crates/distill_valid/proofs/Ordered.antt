@@ -29,21 +29,21 @@ below_more m n (x ∷ xs) l a = (omega (arith, l, a.0), below_more m n xs l a.1)
 module _ (pick : ℕ → Option Premise) (base : ℕ) (keyed : (pc : ℕ) (p : Premise) → pick pc ≡ Some p → key_of p ≡ base + pc) where
   pub kind_rises : (due : ℕ) (pcs : List ℕ) → Rises due pcs → Rises (base + due) (map key_of (filter_map pick pcs))
   kind_rises due [] r = tt
-  kind_rises due (pc ∷ pcs) r = by (pick pc) refl (kind_rises (pc + 1) pcs r.1)
+  kind_rises due (pc ∷ pcs) r = rises_if_picked (pick pc) refl (kind_rises (pc + 1) pcs r.1)
     where
-      by : (o : Option Premise) → pick pc ≡ o → Rises (base + (pc + 1)) (map key_of (filter_map pick pcs)) → Rises (base + due) (map key_of (cons_option o (filter_map pick pcs)))
-      by None e more = rises_sooner (base + due) (base + (pc + 1)) (map key_of (filter_map pick pcs)) (omega (arith, r.0)) more
-      by (Some p) e more =
+      rises_if_picked : (o : Option Premise) → pick pc ≡ o → Rises (base + (pc + 1)) (map key_of (filter_map pick pcs)) → Rises (base + due) (map key_of (cons_option o (filter_map pick pcs)))
+      rises_if_picked None e more = rises_sooner (base + due) (base + (pc + 1)) (map key_of (filter_map pick pcs)) (omega (arith, r.0)) more
+      rises_if_picked (Some p) e more =
           let key = keyed pc p e in
           (omega (arith, key, r.0), rises_sooner (key_of p + 1) (base + (pc + 1)) (map key_of (filter_map pick pcs)) (omega (arith, key)) more)
 
   pub kind_below : (top : ℕ) (pcs : List ℕ) → AllBelow top pcs → AllBelow (base + top) (map key_of (filter_map pick pcs))
   kind_below top [] b = tt
-  kind_below top (pc ∷ pcs) b = by (pick pc) refl (kind_below top pcs b.1)
+  kind_below top (pc ∷ pcs) b = below_if_picked (pick pc) refl (kind_below top pcs b.1)
     where
-      by : (o : Option Premise) → pick pc ≡ o → AllBelow (base + top) (map key_of (filter_map pick pcs)) → AllBelow (base + top) (map key_of (cons_option o (filter_map pick pcs)))
-      by None e more = more
-      by (Some p) e more = let key = keyed pc p e in (omega (arith, key, b.0), more)
+      below_if_picked : (o : Option Premise) → pick pc ≡ o → AllBelow (base + top) (map key_of (filter_map pick pcs)) → AllBelow (base + top) (map key_of (cons_option o (filter_map pick pcs)))
+      below_if_picked None e more = more
+      below_if_picked (Some p) e more = let key = keyed pc p e in (omega (arith, key, b.0), more)
 
 -- four kinds, one behind the other, the last behind what is of no kind
 pub all_rise : (top : ℕ) (xs ys zs ws vs : List ℕ) → Rises 0 xs → AllBelow top xs → Rises top ys → AllBelow (2 * top) ys → Rises (2 * top) zs → AllBelow (3 * top) zs

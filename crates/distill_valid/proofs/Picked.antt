@@ -30,14 +30,14 @@ same_pick value pc = option_map (Same pc) (value pc)
 pub values_are : (word : ℕ → ℕ) (rows : List Tally) (c : Cuts) (begun : List ℕ) (t : List Mask) (pcs : List ℕ)
     → values c (map (plot_at word rows c begun t) pcs) ≡ filter_map (same_pick (value_of word rows c begun t)) pcs
 values_are word rows c begun t [] = refl
-values_are word rows c begun t (pc ∷ pcs) = by (plot_at word rows c begun t pc).kept (value_at c pc) (values_are word rows c begun t pcs)
+values_are word rows c begun t (pc ∷ pcs) = if_valued (plot_at word rows c begun t pc).kept (value_at c pc) (values_are word rows c begun t pcs)
   where
-    by : (b : Bool) (o : Option ℕ) → values c (map (plot_at word rows c begun t) pcs) ≡ filter_map (same_pick (value_of word rows c begun t)) pcs
+    if_valued : (b : Bool) (o : Option ℕ) → values c (map (plot_at word rows c begun t) pcs) ≡ filter_map (same_pick (value_of word rows c begun t)) pcs
         → cons_option (cond b (option_map (λ v. Same pc v) o) None) (values c (map (plot_at word rows c begun t) pcs))
         ≡ cons_option (option_map (Same pc) (cond b o None)) (filter_map (same_pick (value_of word rows c begun t)) pcs)
-    by true None more = more
-    by true (Some v) more = ap (λ xs. Same pc v ∷ xs) more
-    by false o more = more
+    if_valued true None more = more
+    if_valued true (Some v) more = ap (λ xs. Same pc v ∷ xs) more
+    if_valued false o more = more
 
 module _ (word : ℕ → ℕ) (rows : List Tally) (rare : ℕ) where
   abbrev pub cut_pick : ℕ → Option Premise
@@ -51,12 +51,12 @@ module _ (word : ℕ → ℕ) (rows : List Tally) (rare : ℕ) where
 
   cuts_are : (pcs : List ℕ) → map cut_premise (pairs (cut_at word rows rare) pcs) ≡ filter_map cut_pick pcs
   cuts_are [] = refl
-  cuts_are (pc ∷ pcs) = by (cut_at word rows rare pc) (cuts_are pcs)
+  cuts_are (pc ∷ pcs) = if_cut (cut_at word rows rare pc) (cuts_are pcs)
     where
-      by : (o : Option Bool) → map cut_premise (pairs (cut_at word rows rare) pcs) ≡ filter_map cut_pick pcs
+      if_cut : (o : Option Bool) → map cut_premise (pairs (cut_at word rows rare) pcs) ≡ filter_map cut_pick pcs
           → map cut_premise (cons_option (option_map {U = ℕ × Bool} (λ b. (pc, b)) o) (pairs (cut_at word rows rare) pcs)) ≡ cons_option (option_map (Cut pc) o) (filter_map cut_pick pcs)
-      by None more = more
-      by (Some b) more = ap (λ xs. Cut pc b ∷ xs) more
+      if_cut None more = more
+      if_cut (Some b) more = ap (λ xs. Cut pc b ∷ xs) more
 
   targets_are : (c : Cuts) (pcs : List ℕ) → target_premises word rows c pcs ≡ filter_map targets_pick pcs
   targets_are c [] = refl
@@ -64,12 +64,12 @@ module _ (word : ℕ → ℕ) (rows : List Tally) (rare : ℕ) where
 
   dead_are : (pcs : List ℕ) → map Dead (filter (is_dead word rows) pcs) ≡ filter_map dead_pick pcs
   dead_are [] = refl
-  dead_are (pc ∷ pcs) = by (is_dead word rows pc) (dead_are pcs)
+  dead_are (pc ∷ pcs) = if_dead (is_dead word rows pc) (dead_are pcs)
     where
-      by : (b : Bool) → map Dead (filter (is_dead word rows) pcs) ≡ filter_map dead_pick pcs
+      if_dead : (b : Bool) → map Dead (filter (is_dead word rows) pcs) ≡ filter_map dead_pick pcs
           → map Dead (cond b (pc ∷ filter (is_dead word rows) pcs) (filter (is_dead word rows) pcs)) ≡ cons_option (dead_pick_by b pc) (filter_map dead_pick pcs)
-      by true more = ap (λ xs. Dead pc ∷ xs) more
-      by false more = more
+      if_dead true more = ap (λ xs. Dead pc ∷ xs) more
+      if_dead false more = more
 
   abbrev pub of_none : List Premise
   of_none = Code ∷ Within ∷ Span ∷ []

@@ -19,7 +19,7 @@ same_word : (v w : ℕ) → ◌≡◌ {A = Option ℕ} (Some v) (Some w) → v �
 same_word v w e = cc
 
 constant_small : (rd v w : ℕ) → rd < 2 ^ 5 → v < 2 ^ 32 → constant_word rd v ≡ Some w → w < 2 ^ 32
-constant_small rd v w l r e = by (int_le (negsuc 2047) (cast_signed w32 v) && int_le (cast_signed w32 v) (pos 2047)) refl e
+constant_small rd v w l r e = if_small (int_le (negsuc 2047) (cast_signed w32 v) && int_le (cast_signed w32 v) (pos 2047)) refl e
   where
     small : Inst
     small = OpImm Addi rd 0 (cast_signed w32 v)
@@ -31,10 +31,10 @@ constant_small rd v w l r e = by (int_le (negsuc 2047) (cast_signed w32 v) && in
     signed : (int_le (negsuc 2047) (cast_signed w32 v) && int_le (cast_signed w32 v) (pos 2047)) ≡ true → IsSigned 11 (cast_signed w32 v)
     signed h = grind (arith, h, ints)
 
-    by : (b : Bool) → (int_le (negsuc 2047) (cast_signed w32 v) && int_le (cast_signed w32 v) (pos 2047)) ≡ b
+    if_small : (b : Bool) → (int_le (negsuc 2047) (cast_signed w32 v) && int_le (cast_signed w32 v) (pos 2047)) ≡ b
         → option_map spelling (cond b (Some small) (cond (eqb (v % 2 ^ 12) 0) (Some (Lui rd v)) None)) ≡ Some w → w < 2 ^ 32
-    by true h e = subst (λ n. n < 2 ^ 32) (same_word (spelling small) w e) (spelling-lt small (l, omega arith, signed h))
-    by false h e = by_low (eqb (v % 2 ^ 12) 0) refl e
+    if_small true h e = subst (λ n. n < 2 ^ 32) (same_word (spelling small) w e) (spelling-lt small (l, omega arith, signed h))
+    if_small false h e = by_low (eqb (v % 2 ^ 12) 0) refl e
 
 pub set_small : (v : ℕ) (i : Inst) (w : ℕ) → IsWellFormed i → v < 2 ^ 32 → set_word (Some v) i ≡ Some w → w < 2 ^ 32
 set_small v i w ok l e =

@@ -87,11 +87,11 @@ is_plain [] (p ∷ ps) e = absurd (omega (arith, e))
 is_plain (w ∷ ws) ps e = absurd (omega (arith, e))
 
 limit_fits : (version limit : ℕ) → 16 ≤ limit → limit ≤ 16_384 → (16 ≤ limit_of version limit) × (limit_of version limit ≤ most_steps version)
-limit_fits version limit least greatest = by (eqb version 1)
+limit_fits version limit least greatest = by_version (eqb version 1)
   where
-    by : (b : Bool) → (16 ≤ cond b limit (min limit 4_096)) × (cond b limit (min limit 4_096) ≤ cond b 16_384 4_096)
-    by true = (least, greatest)
-    by false = (omega (arith, least), omega arith)
+    by_version : (b : Bool) → (16 ≤ cond b limit (min limit 4_096)) × (cond b limit (min limit 4_096) ≤ cond b 16_384 4_096)
+    by_version true = (least, greatest)
+    by_version false = (omega (arith, least), omega arith)
 
 -- a kind that the first version knows
 picked_plain : (pick : ℕ → Option Premise) → ((pc : ℕ) (p : Premise) → pick pc ≡ Some p → IsKnownAtFirst p) → (pcs : List ℕ) → All IsKnownAtFirst (filter_map pick pcs)
@@ -113,11 +113,11 @@ module _ (word : ℕ → ℕ) (rows : List Tally) (rare : ℕ) where
 
 kept_shorter : (p : ℕ → Bool) (ns : List ℕ) → length (filter p ns) ≤ length ns
 kept_shorter p [] = omega arith
-kept_shorter p (n ∷ ns) = by (p n) (kept_shorter p ns)
+kept_shorter p (n ∷ ns) = if_passing (p n) (kept_shorter p ns)
   where
-    by : (b : Bool) → length (filter p ns) ≤ length ns → length (cond b (n ∷ filter p ns) (filter p ns)) ≤ suc (length ns)
-    by true more = omega (arith, more)
-    by false more = omega (arith, more)
+    if_passing : (b : Bool) → length (filter p ns) ≤ length ns → length (cond b (n ∷ filter p ns) (filter p ns)) ≤ suc (length ns)
+    if_passing true more = omega (arith, more)
+    if_passing false more = omega (arith, more)
 
 among_kept : (p : ℕ → Bool) (ns : List ℕ) (q : ℕ) → among (filter p ns) q ≡ true → among ns q ≡ true
 among_kept p ns q h = and_left (among ns q) (p q) (sym (among_filter p ns q) ∙ h)
@@ -147,26 +147,26 @@ module _ (word : ℕ → ℕ) (rows : List Tally) (rare : ℕ) (same : List (ℕ
   value = value_of word rows c begun t
 
   given : (pc v : ℕ) → value pc ≡ Some v → value_at c pc ≡ Some v
-  given pc v e = by (plot_at word rows c begun t pc).kept (value_at c pc) e
+  given pc v e = if_kept (plot_at word rows c begun t pc).kept (value_at c pc) e
     where
-      by : (b : Bool) (o : Option ℕ) → cond b o None ≡ Some v → o ≡ Some v
-      by true o e = e
-      by false o e = cc
+      if_kept : (b : Bool) (o : Option ℕ) → cond b o None ≡ Some v → o ≡ Some v
+      if_kept true o e = e
+      if_kept false o e = cc
 
   load_of : (pc v : ℕ) → value_at c pc ≡ Some v → IsSome (set_word (Some v) (meaning (word pc))) × (v < 2 ^ 32)
   load_of pc v e = value_has (λ q v. IsSome (set_word (Some v) (meaning (word q))) × (v < 2 ^ 32)) same loads pc v e
 
   -- a word that is laid has 32 bits
   laid_small : (pc : ℕ) → (plot_at word rows c begun t pc).word < 2 ^ 32
-  laid_small pc = by (value_at c pc) (λ v e. (load_of pc v e).1) refl
+  laid_small pc = if_set (value_at c pc) (λ v e. (load_of pc v e).1) refl
     where
       set_by : (v : ℕ) → v < 2 ^ 32 → (o : Option ℕ) → set_word (Some v) (meaning (word pc)) ≡ o → unwrap_or o (word pc) < 2 ^ 32
       set_by v l None f = small pc
       set_by v l (Some w) f = set_small v (meaning (word pc)) w (well_formed-meaning (word pc) (small pc)) l f
 
-      by : (o : Option ℕ) → ((v : ℕ) → o ≡ Some v → v < 2 ^ 32) → value_at c pc ≡ o → unwrap_or (set_word o (meaning (word pc))) (word pc) < 2 ^ 32
-      by None l e = small pc
-      by (Some v) l e = set_by v (l v refl) (set_word (Some v) (meaning (word pc))) refl
+      if_set : (o : Option ℕ) → ((v : ℕ) → o ≡ Some v → v < 2 ^ 32) → value_at c pc ≡ o → unwrap_or (set_word o (meaning (word pc))) (word pc) < 2 ^ 32
+      if_set None l e = small pc
+      if_set (Some v) l e = set_by v (l v refl) (set_word (Some v) (meaning (word pc))) refl
 
   plot_fits : (pc : ℕ) → among (analysed rows) pc ≡ true → IsFit (plot_at word rows c begun t pc)
   plot_fits pc h = record {

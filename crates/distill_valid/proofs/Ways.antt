@@ -15,12 +15,12 @@ sum_small : (pc : ℕ) (z : ℤ) → sum32 pc z < 2 ^ 32
 sum_small pc z = omega arith
 
 pub on_pc : (c : Claims) (pc : ℕ) (i : Inst) → IsPc pc → ((b : Bool) → c.cut pc ≡ Some b → has_sides pc i ≡ true) → IsPc (goes_on_at c pc i)
-on_pc c pc (Branch test rs1 rs2 off) ok cut = by (c.cut pc) refl
+on_pc c pc (Branch test rs1 rs2 off) ok cut = if_cut (c.cut pc) refl
   where
-    by : (o : Option Bool) → c.cut pc ≡ o → IsPc (goes_on_at (record { cut = λ q. o; targets = λ q. None; dead = λ q. false; prints = λ q. false }) pc (Branch test rs1 rs2 off))
-    by None e = after_pc pc ok
-    by (Some true) e = after_pc pc ok
-    by (Some false) e =
+    if_cut : (o : Option Bool) → c.cut pc ≡ o → IsPc (goes_on_at (record { cut = λ q. o; targets = λ q. None; dead = λ q. false; prints = λ q. false }) pc (Branch test rs1 rs2 off))
+    if_cut None e = after_pc pc ok
+    if_cut (Some true) e = after_pc pc ok
+    if_cut (Some false) e =
         (eqb-true _ _ (and_parts (eqb (sum32 pc off % 4) 0) (not (eqb (sum32 pc off) (after pc))) (cut false e)).0, sum_small pc off)
 on_pc c pc (Lui rd imm) ok cut = after_pc pc ok
 on_pc c pc (Auipc rd imm) ok cut = after_pc pc ok

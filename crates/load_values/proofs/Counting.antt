@@ -70,14 +70,14 @@ module _ {M : Type 0} {d : Ghosts M} (at : M → ℕ → ℕ) (start : State) wh
     found_next : (u : Loads) → get nat_cmp u.found m.arch.pc ≡ known_after told (get nat_cmp l.found m.arch.pc) → ((q : ℕ) → (q ≡ m.arch.pc → ⊥) → get nat_cmp u.found q ≡ get nat_cmp l.found q)
         → (q : ℕ) → get nat_cmp u.found q ≡ known_at start q (suc k)
     unfolding known_at
-    found_next u here elsewhere q = by (nat_eq (pc_at start k) q) refl
+    found_next u here elsewhere q = if_same_pc (nat_eq (pc_at start k) q) refl
       where
-        by : (b : Bool) → nat_eq (pc_at start k) q ≡ b → get nat_cmp u.found q ≡ cond b (known_after (sight_at start k) (known_at start q k)) (known_at start q k)
-        by true e =
+        if_same_pc : (b : Bool) → nat_eq (pc_at start k) q ≡ b → get nat_cmp u.found q ≡ cond b (known_after (sight_at start k) (known_at start q k)) (known_at start q k)
+        if_same_pc true e =
             let same : m.arch.pc ≡ q = pc_is ∙ eqb-true (pc_at start k) q e in
             ap (get nat_cmp u.found) (sym same) ∙ here ∙ ap (λ (s : Sight). known_after s (get nat_cmp l.found m.arch.pc)) told_is
             ∙ ap (known_after (sight_at start k)) (counted.found m.arch.pc ∙ ap (λ (x : ℕ). known_at start x k) same)
-        by false e = elsewhere q (λ h. eqb-false (pc_at start k) q e (sym (h ∙ pc_is))) ∙ counted.found q
+        if_same_pc false e = elsewhere q (λ h. eqb-false (pc_at start k) q e (sym (h ∙ pc_is))) ∙ counted.found q
 
     pub counted_next : (n : Machine M d) (u : Loads) → is_over (state_of at m) ≡ false → state_of at n ≡ step (state_of at m) → n.position ≡ m.position + 1
         → get nat_cmp u.found m.arch.pc ≡ known_after told (get nat_cmp l.found m.arch.pc) → ((q : ℕ) → (q ≡ m.arch.pc → ⊥) → get nat_cmp u.found q ≡ get nat_cmp l.found q)

@@ -105,23 +105,23 @@ module _ (start : State) (p : ℕ) where
   says : (n : ℕ) → Says n (known_at start p n)
   unfolding known_at
   says zero = λ i lt at. absurd (omega arith)
-  says (suc n) = by (nat_eq (pc_at start n) p) refl (says n)
+  says (suc n) = if_at_pc (nat_eq (pc_at start n) p) refl (says n)
     where
-      by : (b : Bool) → nat_eq (pc_at start n) p ≡ b → Says n (known_at start p n) → Says (suc n) (cond b (known_after (sight_at start n) (known_at start p n)) (known_at start p n))
-      by true e before = at_pc n (eqb-true (pc_at start n) p e) (sight_at start n) (known_at start p n) refl before
-      by false e before = elsewhere n (known_at start p n) (eqb-false (pc_at start n) p e) before
+      if_at_pc : (b : Bool) → nat_eq (pc_at start n) p ≡ b → Says n (known_at start p n) → Says (suc n) (cond b (known_after (sight_at start n) (known_at start p n)) (known_at start p n))
+      if_at_pc true e before = at_pc n (eqb-true (pc_at start n) p e) (sight_at start n) (known_at start p n) refl before
+      if_at_pc false e before = elsewhere n (known_at start p n) (eqb-false (pc_at start n) p e) before
 
   pub value_is : (n v : ℕ) → known_at start p n ≡ Some (One v) → IsValueAt start n p v
   value_is n v e = subst (λ (k : Option Found). Says n k) e (says n)
 
   pub is_known : (n v : ℕ) → IsValueAt start n p v → known_at start p n ≡ Some (One v)
-  is_known n v is = by (known_at start p n) (says n)
+  is_known n v is = only_one (known_at start p n) (says n)
     where
       s : (i : ℕ) × (i < n) × (pc_at start i ≡ p)
       s = is.stood
 
-      by : (k : Option Found) → Says n k → k ≡ Some (One v)
-      by None says = absurd (not_given start s.0 v Nothing (says s.0 s.1 s.2) (nothing_apart v) (is.each s.0 s.1 s.2))
-      by (Some (One u)) says = ap (λ (w : ℕ). Some (One w)) (one_value start s.0 u v (says.each s.0 s.1 s.2) (is.each s.0 s.1 s.2))
-      by (Some Many) says = absurd (says v is.each)
-      by (Some Unseen) says = absurd (says v is.each)
+      only_one : (k : Option Found) → Says n k → k ≡ Some (One v)
+      only_one None says = absurd (not_given start s.0 v Nothing (says s.0 s.1 s.2) (nothing_apart v) (is.each s.0 s.1 s.2))
+      only_one (Some (One u)) says = ap (λ (w : ℕ). Some (One w)) (one_value start s.0 u v (says.each s.0 s.1 s.2) (is.each s.0 s.1 s.2))
+      only_one (Some Many) says = absurd (says v is.each)
+      only_one (Some Unseen) says = absurd (says v is.each)

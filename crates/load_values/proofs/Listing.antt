@@ -32,50 +32,50 @@ abbrev AllAbove : ℕ → List ℕ → Type 0
 AllAbove x xs = AllByRecursion (λ y. nat_cmp x y ≡ Less) xs
 
 apart : (x y : ℕ) → nat_cmp x y ≡ Less → nat_eq x y ≡ false
-apart x y h = by (nat_eq x y) refl
+apart x y h = if_equal (nat_eq x y) refl
   where
-    by : (b : Bool) → nat_eq x y ≡ b → b ≡ false
-    by true e = let equal : Equal ≡ nat_cmp x y = nat_cmp_is x y Equal (eqb-true x y e) in absurd cc
-    by false e = refl
+    if_equal : (b : Bool) → nat_eq x y ≡ b → b ≡ false
+    if_equal true e = let equal : Equal ≡ nat_cmp x y = nat_cmp_is x y Equal (eqb-true x y e) in absurd cc
+    if_equal false e = refl
 
 pub same_key : (p q : ℕ) → is_at (nat_cmp p) q ≡ nat_eq p q
-same_key p q = by (nat_eq p q) refl
+same_key p q = if_equal (nat_eq p q) refl
   where
     other : nat_eq p q ≡ false → (o : Ordering) → nat_cmp p q ≡ o → is_eq o ≡ false
     other e Less h = refl
     other e Equal h = absurd (eqb-false p q e (exact_unsigned p q h))
     other e Greater h = refl
 
-    by : (b : Bool) → nat_eq p q ≡ b → is_at (nat_cmp p) q ≡ b
-    by true e = ap is_eq (sym (nat_cmp_is p q Equal (eqb-true p q e)))
-    by false e = other e (nat_cmp p q) refl
+    if_equal : (b : Bool) → nat_eq p q ≡ b → is_at (nat_cmp p) q ≡ b
+    if_equal true e = ap is_eq (sym (nat_cmp_is p q Equal (eqb-true p q e)))
+    if_equal false e = other e (nat_cmp p q) refl
 
 all_above : (x : ℕ) (es : List (ℕ × Found)) → AllAbove x (keys_of es) → AllAbove x (map pc_of (listed es))
 all_above x [] h = tt
-all_above x (e ∷ es) h = by (single e.1) (all_above x es h.1)
+all_above x (e ∷ es) h = above_if_single (single e.1) (all_above x es h.1)
   where
-    by : (o : Option ℕ) → AllAbove x (map pc_of (listed es)) → AllAbove x (map pc_of (row_of e.0 o ++ listed es))
-    by None rest = rest
-    by (Some v) rest = (h.0, rest)
+    above_if_single : (o : Option ℕ) → AllAbove x (map pc_of (listed es)) → AllAbove x (map pc_of (row_of e.0 o ++ listed es))
+    above_if_single None rest = rest
+    above_if_single (Some v) rest = (h.0, rest)
 
 sorted : (es : List (ℕ × Found)) → IsStrictlySortedBy nat_cmp (keys_of es) → IsStrictlySortedBy nat_cmp (map pc_of (listed es))
 unfolding IsStrictlySortedBy
 sorted [] h = tt
-sorted (e ∷ es) h = by (single e.1) (sorted es h.1)
+sorted (e ∷ es) h = sorted_if_single (single e.1) (sorted es h.1)
   where
-    by : (o : Option ℕ) → IsStrictlySortedBy nat_cmp (map pc_of (listed es)) → IsStrictlySortedBy nat_cmp (map pc_of (row_of e.0 o ++ listed es))
-    by None rest = rest
-    by (Some v) rest = (all_above e.0 es h.0, rest)
+    sorted_if_single : (o : Option ℕ) → IsStrictlySortedBy nat_cmp (map pc_of (listed es)) → IsStrictlySortedBy nat_cmp (map pc_of (row_of e.0 o ++ listed es))
+    sorted_if_single None rest = rest
+    sorted_if_single (Some v) rest = (all_above e.0 es h.0, rest)
 
 -- ---- look-ups
 
 none_listed : (p : ℕ) (es : List (ℕ × Found)) → AllAbove p (keys_of es) → lookup (nat_eq p) (listed es) ≡ None
 none_listed p [] h = refl
-none_listed p (e ∷ es) h = by (single e.1) (none_listed p es h.1)
+none_listed p (e ∷ es) h = none_if_single (single e.1) (none_listed p es h.1)
   where
-    by : (o : Option ℕ) → lookup (nat_eq p) (listed es) ≡ None → lookup (nat_eq p) (row_of e.0 o ++ listed es) ≡ None
-    by None rest = rest
-    by (Some v) rest = ap (λ (b : Bool). cond b (Some v) (lookup (nat_eq p) (listed es))) (apart p e.0 h.0) ∙ rest
+    none_if_single : (o : Option ℕ) → lookup (nat_eq p) (listed es) ≡ None → lookup (nat_eq p) (row_of e.0 o ++ listed es) ≡ None
+    none_if_single None rest = rest
+    none_if_single (Some v) rest = ap (λ (b : Bool). cond b (Some v) (lookup (nat_eq p) (listed es))) (apart p e.0 h.0) ∙ rest
 
 abbrev single_in : Option Found → Option ℕ
 single_in None = None
@@ -85,25 +85,25 @@ lookup_listed : (p : ℕ) (es : List (ℕ × Found)) → IsStrictlySortedBy nat_
 unfolding IsStrictlySortedBy
 lookup_listed p [] h = refl
 lookup_listed p (e ∷ es) h =
-    by (nat_eq p e.0) (single e.1) refl refl (lookup_listed p es h.1) ∙ ap (λ (b : Bool). single_in (cond b (Some e.1) (lookup (is_at (nat_cmp p)) es))) (sym (same_key p e.0))
+    at_first (nat_eq p e.0) (single e.1) refl refl (lookup_listed p es h.1) ∙ ap (λ (b : Bool). single_in (cond b (Some e.1) (lookup (is_at (nat_cmp p)) es))) (sym (same_key p e.0))
   where
     at : (v : ℕ) (b : Bool) → nat_eq p e.0 ≡ b → lookup (nat_eq p) (row_of e.0 (Some v) ++ listed es) ≡ cond b (Some v) (lookup (nat_eq p) (listed es))
     at v b t = ap (λ (c : Bool). cond c (Some v) (lookup (nat_eq p) (listed es))) t
 
-    by : (b : Bool) (o : Option ℕ) → nat_eq p e.0 ≡ b → single e.1 ≡ o → lookup (nat_eq p) (listed es) ≡ single_in (lookup (is_at (nat_cmp p)) es)
+    at_first : (b : Bool) (o : Option ℕ) → nat_eq p e.0 ≡ b → single e.1 ≡ o → lookup (nat_eq p) (listed es) ≡ single_in (lookup (is_at (nat_cmp p)) es)
         → lookup (nat_eq p) (row_of e.0 o ++ listed es) ≡ single_in (cond b (Some e.1) (lookup (is_at (nat_cmp p)) es))
-    by true None t s rest = none_listed p es (subst (λ (x : ℕ). AllAbove x (keys_of es)) (sym (eqb-true p e.0 t)) h.0) ∙ sym s
-    by true (Some v) t s rest = at v true t ∙ sym s
-    by false None t s rest = rest
-    by false (Some v) t s rest = at v false t ∙ rest
+    at_first true None t s rest = none_listed p es (subst (λ (x : ℕ). AllAbove x (keys_of es)) (sym (eqb-true p e.0 t)) h.0) ∙ sym s
+    at_first true (Some v) t s rest = at v true t ∙ sym s
+    at_first false None t s rest = rest
+    at_first false (Some v) t s rest = at v false t ∙ rest
 
 above : (k : ℕ) (xs : List (ℕ × ℕ)) → AllAbove k (map pc_of xs) → (p v : ℕ) → lookup (nat_eq p) xs ≡ Some v → nat_cmp k p ≡ Less
 above k [] a p v found = absurd cc
-above k (x ∷ xs) a p v found = by (nat_eq p x.0) refl found (λ f. above k xs a.1 p v f)
+above k (x ∷ xs) a p v found = at_first (nat_eq p x.0) refl found (λ f. above k xs a.1 p v f)
   where
-    by : (b : Bool) → nat_eq p x.0 ≡ b → cond b (Some x.1) (lookup (nat_eq p) xs) ≡ Some v → (lookup (nat_eq p) xs ≡ Some v → nat_cmp k p ≡ Less) → nat_cmp k p ≡ Less
-    by true t f later = subst (λ (q : ℕ). nat_cmp k q ≡ Less) (sym (eqb-true p x.0 t)) a.0
-    by false t f later = later f
+    at_first : (b : Bool) → nat_eq p x.0 ≡ b → cond b (Some x.1) (lookup (nat_eq p) xs) ≡ Some v → (lookup (nat_eq p) xs ≡ Some v → nat_cmp k p ≡ Less) → nat_cmp k p ≡ Less
+    at_first true t f later = subst (λ (q : ℕ). nat_cmp k q ≡ Less) (sym (eqb-true p x.0 t)) a.0
+    at_first false t f later = later f
 
 -- each row is found
 each_row : (P : ℕ × ℕ → Type 0) (rows : List (ℕ × ℕ)) → IsStrictlySortedBy nat_cmp (map pc_of rows) → ((p v : ℕ) → lookup (nat_eq p) rows ≡ Some v → P (p, v)) → AllByRecursion P rows
@@ -117,11 +117,11 @@ each_row P (e ∷ es) s h = (
 -- ---- how many rows
 
 few_rows : (p : ℕ) (f : Found) → length (row_of p (single f)) ≤ weight f
-few_rows p (One v) = by (has_word v)
+few_rows p (One v) = if_word (has_word v)
   where
-    by : (b : Bool) → length (row_of p (cond b (Some v) None)) ≤ 1
-    by true = omega arith
-    by false = omega arith
+    if_word : (b : Bool) → length (row_of p (cond b (Some v) None)) ≤ 1
+    if_word true = omega arith
+    if_word false = omega arith
 few_rows p Many = omega arith
 few_rows p Unseen = omega arith
 
@@ -141,11 +141,11 @@ some_is u v e = cc
 
 single_is : (k : Option Found) (v : ℕ) → single_in k ≡ Some v → (k ≡ Some (One v)) × (has_word v ≡ true)
 single_is None v e = absurd cc
-single_is (Some (One u)) v e = by (has_word u) refl e
+single_is (Some (One u)) v e = if_word (has_word u) refl e
   where
-    by : (b : Bool) → has_word u ≡ b → cond b (Some u) None ≡ Some v → (Some (One u) ≡ Some (One v)) × (has_word v ≡ true)
-    by true w e = let same = some_is u v e in (ap (λ (n : ℕ). Some (One n)) same, ap has_word (sym same) ∙ w)
-    by false w e = absurd cc
+    if_word : (b : Bool) → has_word u ≡ b → cond b (Some u) None ≡ Some v → (Some (One u) ≡ Some (One v)) × (has_word v ≡ true)
+    if_word true w e = let same = some_is u v e in (ap (λ (n : ℕ). Some (One n)) same, ap has_word (sym same) ∙ w)
+    if_word false w e = absurd cc
 single_is (Some Many) v e = absurd cc
 single_is (Some Unseen) v e = absurd cc
 

@@ -20,11 +20,11 @@ use Rattle.load_values.proofs.Told.{executes_load}
 
 one_executed : (v : ℕ) (k : Option Found) → is_executed (Some (one_more v k)) ≡ true
 one_executed v None = refl
-one_executed v (Some (One u)) = by (nat_eq u v)
+one_executed v (Some (One u)) = one_or_many (nat_eq u v)
   where
-    by : (b : Bool) → is_executed (Some (cond b (One u) Many)) ≡ true
-    by true = refl
-    by false = refl
+    one_or_many : (b : Bool) → is_executed (Some (cond b (One u) Many)) ≡ true
+    one_or_many true = refl
+    one_or_many false = refl
 one_executed v (Some Many) = refl
 one_executed v (Some Unseen) = refl
 
@@ -48,13 +48,13 @@ after_executed Nothing k = refl
 
 -- what is counted once more
 pub weight_noted : (s : Sight) (k : Option Found) → weight (noted s k) ≡ cond (is_executed k) 1 0 + newly s k
-weight_noted s k = ap (λ (b : Bool). cond b 1 0) (noted_executed s k) ∙ by (executes s) (is_executed k)
+weight_noted s k = ap (λ (b : Bool). cond b 1 0) (noted_executed s k) ∙ more_if_new (executes s) (is_executed k)
   where
-    by : (a b : Bool) → cond (a || b) 1 0 ≡ cond b 1 0 + cond (a && not b) 1 0
-    by true true = refl
-    by true false = refl
-    by false true = refl
-    by false false = refl
+    more_if_new : (a b : Bool) → cond (a || b) 1 0 ≡ cond b 1 0 + cond (a && not b) 1 0
+    more_if_new true true = refl
+    more_if_new true false = refl
+    more_if_new false true = refl
+    more_if_new false false = refl
 
 -- ---- the pcs of loads
 
@@ -71,7 +71,7 @@ module _ (start : State) where
   pub among_loading : (n p : ℕ) → among (loading start n) p ≡ is_executed (known_at start p n)
   unfolding loading known_at
   among_loading zero p = refl
-  among_loading (suc n) p = by (is_load (fetched_at start n)) (nat_eq (pc_at start n) p) refl refl (among_loading n p)
+  among_loading (suc n) p = if_loading (is_load (fetched_at start n)) (nat_eq (pc_at start n) p) refl refl (among_loading n p)
     where
       q : ℕ
       q = pc_at start n
@@ -79,27 +79,27 @@ module _ (start : State) where
       after : (a : Bool) → is_load (fetched_at start n) ≡ a → is_executed (known_after (sight_at start n) (known_at start p n)) ≡ (a || is_executed (known_at start p n))
       after a e = after_executed (sight_at start n) (known_at start p n) ∙ ap (λ (b : Bool). b || is_executed (known_at start p n)) (executes_load start n ∙ e)
 
-      by : (a b : Bool) → is_load (fetched_at start n) ≡ a → nat_eq (pc_at start n) p ≡ b → among (loading start n) p ≡ is_executed (known_at start p n)
+      if_loading : (a b : Bool) → is_load (fetched_at start n) ≡ a → nat_eq (pc_at start n) p ≡ b → among (loading start n) p ≡ is_executed (known_at start p n)
           → among (cond a (with_new (pc_at start n) (loading start n)) (loading start n)) p ≡ is_executed (cond b (known_after (sight_at start n) (known_at start p n)) (known_at start p n))
-      by true true e f was = among_with_new (loading start n) q p ∙ ap (λ (b : Bool). among (loading start n) p || b) f ∙ or_true (among (loading start n) p) ∙ sym (after true e)
-      by true false e f was = among_with_new (loading start n) q p ∙ ap (λ (b : Bool). among (loading start n) p || b) f ∙ or_false (among (loading start n) p) ∙ was
-      by false true e f was = was ∙ sym (after false e)
-      by false false e f was = was
+      if_loading true true e f was = among_with_new (loading start n) q p ∙ ap (λ (b : Bool). among (loading start n) p || b) f ∙ or_true (among (loading start n) p) ∙ sym (after true e)
+      if_loading true false e f was = among_with_new (loading start n) q p ∙ ap (λ (b : Bool). among (loading start n) p || b) f ∙ or_false (among (loading start n) p) ∙ was
+      if_loading false true e f was = was ∙ sym (after false e)
+      if_loading false false e f was = was
 
   -- how many there are after one position more
   pub loading_next : (n : ℕ) → length (loading start (suc n)) ≡ length (loading start n) + newly (sight_at start n) (known_at start (pc_at start n) n)
   unfolding loading
   loading_next n =
-      by (is_load (fetched_at start n)) (among (loading start n) (pc_at start n))
+      longer_if_new (is_load (fetched_at start n)) (among (loading start n) (pc_at start n))
       ∙ ap (λ (b : Bool). length (loading start n) + cond (b && not (among (loading start n) (pc_at start n))) 1 0) (sym (executes_load start n))
       ∙ ap (λ (b : Bool). length (loading start n) + cond (executes (sight_at start n) && not b) 1 0) (among_loading n (pc_at start n))
     where
-      by : (a b : Bool)
+      longer_if_new : (a b : Bool)
           → length (cond a (cond b (loading start n) (loading start n ++ pc_at start n ∷ [])) (loading start n)) ≡ length (loading start n) + cond (a && not b) 1 0
-      by true true = omega arith
-      by true false = let e = length-append (loading start n) (pc_at start n ∷ []) in omega arith
-      by false true = omega arith
-      by false false = omega arith
+      longer_if_new true true = omega arith
+      longer_if_new true false = let e = length-append (loading start n) (pc_at start n ∷ []) in omega arith
+      longer_if_new false true = omega arith
+      longer_if_new false false = omega arith
 
   more_loading : (n : ℕ) → length (loading start n) ≤ length (loading start (suc n))
   more_loading n = let e = loading_next n in omega arith

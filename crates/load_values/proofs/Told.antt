@@ -102,14 +102,14 @@ module _ (start : State) (i : ℕ) where
 
   -- where it tells nothing, the program has no load
   pub no_load : sight_at start i ≡ Nothing → is_load (meaning (program start (pc_at start i))) ≡ false
-  no_load e = by own refl
+  no_load e = if_own own refl
     where
       h : (is_load (fetched_at start i) ≡ false) × (other ≡ false)
       h = is_nothing (is_load (fetched_at start i)) (own && sets_register (fetched_at start i)) other (value_of (fetched_at start i) (arch_at start i)) e
 
-      by : (b : Bool) → own ≡ b → is_load (meaning (program start (pc_at start i))) ≡ false
-      by true o = ap (λ (w : ℕ). is_load (meaning w)) (sym (eqb-true (word_at (arch_at start i)) (program start (pc_at start i)) o)) ∙ h.0
-      by false o = sym (ap (λ (x : Bool). not x && is_load (meaning (program start (pc_at start i)))) o) ∙ h.1
+      if_own : (b : Bool) → own ≡ b → is_load (meaning (program start (pc_at start i))) ≡ false
+      if_own true o = ap (λ (w : ℕ). is_load (meaning w)) (sym (eqb-true (word_at (arch_at start i)) (program start (pc_at start i)) o)) ∙ h.0
+      if_own false o = sym (ap (λ (x : Bool). not x && is_load (meaning (program start (pc_at start i)))) o) ∙ h.1
 
   -- where it gives a value, the program has one
   pub own_load : (v : ℕ) → Gives start i v → is_load (meaning (program start (pc_at start i))) ≡ true

@@ -17,16 +17,16 @@ module _ (start : State) (image : Distilled) (position : ℕ) where
   -- where no list that is met reaches far enough
   breaks : (budget : ℕ) (v : Verdict) → ((n : ℕ) → Meets start image n → Reaches start image n position → ⊥) → position + image.limit ≤ budget
       → IsVerdict start image budget v → BreaksBefore v (position + image.limit)
-  breaks budget (Met n) none far is = go is.0.stops
+  breaks budget (Met n) none far is = cannot_stop is.0.stops
     where
-      go : (n ≡ budget) ⊎ (is_over (state_at start n) ≡ true) → ⊥
-      go (inl e) = none n is.1 (inl (omega (arith, e, far)))
-      go (inr over) = none n is.1 (inr (n, omega arith, over))
-  breaks budget (Broken i k) none far is = go (nat_lt i (position + image.limit)) refl
+      cannot_stop : (n ≡ budget) ⊎ (is_over (state_at start n) ≡ true) → ⊥
+      cannot_stop (inl e) = none n is.1 (inl (omega (arith, e, far)))
+      cannot_stop (inr over) = none n is.1 (inr (n, omega arith, over))
+  breaks budget (Broken i k) none far is = must_be_near (nat_lt i (position + image.limit)) refl
     where
-      go : (b : Bool) → nat_lt i (position + image.limit) ≡ b → i < position + image.limit
-      go true e = grind (arith, nat_tests)
-      go false e = absurd (none i is.1.met (inl (grind (arith, nat_tests))))
+      must_be_near : (b : Bool) → nat_lt i (position + image.limit) ≡ b → i < position + image.limit
+      must_be_near true e = grind (arith, nat_tests)
+      must_be_near false e = absurd (none i is.1.met (inl (grind (arith, nat_tests))))
 
   pub checked_after : {E : Type 0} (result : Result Effect E)
       → IfOk result (λ effect. Fits (program start) image → (n : ℕ) → Meets start image n → Reaches start image n position → IsSafe effect)

@@ -69,11 +69,11 @@ pub tracked_after : (start start' : State) (image image' : Distilled) (slaves sl
     → start' ≡ start → image' ≡ image → slaves' ≡ slaves → IsAnswer start image slaves old new e result → OnErr result (new ≡ old)
     → ∥ TracksRun start' image' slaves' new ∥₁
 tracked_after start start' image image' slaves slaves' old new e result ok some holds tracks same_start same_image same_slaves answer stays =
-    subst (λ (x : State × Distilled × ℕ). ∥ TracksRun x.0 x.1 x.2 new ∥₁) (λ i. (sym same_start i, sym same_image i, sym same_slaves i)) (by result answer stays)
+    subst (λ (x : State × Distilled × ℕ). ∥ TracksRun x.0 x.1 x.2 new ∥₁) (λ i. (sym same_start i, sym same_image i, sym same_slaves i)) (still_tracked result answer stays)
   where
-    by : (r : Result Effect AllocError) → IsAnswer start image slaves old new e r → OnErr r (new ≡ old) → ∥ TracksRun start image slaves new ∥₁
-    by (Ok effect) is same = subst (λ (m : Model). ∥ TracksRun start image slaves m ∥₁) (sym (ap (λ (a : Answer). a.1) is)) (next_tracked start image slaves ok some old e holds tracks)
-    by (Err x) is same = subst (λ (m : Model). ∥ TracksRun start image slaves m ∥₁) (sym same) tracks
+    still_tracked : (r : Result Effect AllocError) → IsAnswer start image slaves old new e r → OnErr r (new ≡ old) → ∥ TracksRun start image slaves new ∥₁
+    still_tracked (Ok effect) is same = subst (λ (m : Model). ∥ TracksRun start image slaves m ∥₁) (sym (ap (λ (a : Answer). a.1) is)) (next_tracked start image slaves ok some old e holds tracks)
+    still_tracked (Err x) is same = subst (λ (m : Model). ∥ TracksRun start image slaves m ∥₁) (sym same) tracks
 
 module _ (start : State) (image : Distilled) (slaves : ℕ) (old new : Model) (e : Event) where
   pub safe_after : (result : Result Effect AllocError) → IsImage image → 1 ≤ slaves → ∥ Holds (world start image slaves) old ∥₁ → ∥ TracksRun start image slaves old ∥₁

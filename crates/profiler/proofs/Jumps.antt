@@ -20,15 +20,15 @@ module _ (s : State) (going : is_over s ≡ false) where
 
   pub target_is : jump_target (meaning (word_at s.arch)) s.arch.pc (value s.arch)
       ≡ cond (is_register_jump (meaning (word_at s.arch)) && not (machine.stops s.arch)) (Some (step s).arch.pc) None
-  target_is = go (is_register_jump (meaning (word_at s.arch))) (flow_at s) refl
+  target_is = by_flow (is_register_jump (meaning (word_at s.arch))) (flow_at s) refl
     where
-      go : (b : Bool) (f : Flow) → flow_at s ≡ f → cond b (goes_to f) None ≡ cond (b && not (not (is_next f))) (Some (step s).arch.pc) None
-      go false f e = refl
-      go true (Next to) e = ap Some (sym (next_pc to e))
-      go true Call e = refl
-      go true Break e = refl
-      go true (Illegal w) e = refl
-      go true (Misfetch to) e = refl
+      by_flow : (b : Bool) (f : Flow) → flow_at s ≡ f → cond b (goes_to f) None ≡ cond (b && not (not (is_next f))) (Some (step s).arch.pc) None
+      by_flow false f e = refl
+      by_flow true (Next to) e = ap Some (sym (next_pc to e))
+      by_flow true Call e = refl
+      by_flow true Break e = refl
+      by_flow true (Illegal w) e = refl
+      by_flow true (Misfetch to) e = refl
 
 -- a visit, part by part
 pub same_visit : (pc qc : ℕ) (taken taken' changed changed' : Bool) (target target' : Option ℕ) (loads loads' puts puts' : Span) (claim claim' : ℕ)

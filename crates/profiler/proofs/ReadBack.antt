@@ -44,37 +44,37 @@ no_places (suc n) from a e = absurd (omega arith)
 module _ (pc : ℕ) where
   pub same_targets : (ts : List Tally) → target_count (updated pc as_read ts) ≡ target_count ts
   same_targets [] = refl
-  same_targets (t ∷ ts) = go (t.pc == pc) (same_targets ts)
+  same_targets (t ∷ ts) = at_first (t.pc == pc) (same_targets ts)
     where
-      go : (b : Bool) → target_count (updated pc as_read ts) ≡ target_count ts → target_count (cond b (as_read t ∷ ts) (t ∷ updated pc as_read ts)) ≡ target_count (t ∷ ts)
-      go true rest =
+      at_first : (b : Bool) → target_count (updated pc as_read ts) ≡ target_count ts → target_count (cond b (as_read t ∷ ts) (t ∷ updated pc as_read ts)) ≡ target_count (t ∷ ts)
+      at_first true rest =
           let a = sum_by-cons (λ (x : Tally). length x.targets) (as_read t) ts in
           let b = sum_by-cons (λ (x : Tally). length x.targets) t ts in
           omega arith
-      go false rest =
+      at_first false rest =
           let a = sum_by-cons (λ (x : Tally). length x.targets) t (updated pc as_read ts) in
           let b = sum_by-cons (λ (x : Tally). length x.targets) t ts in
           omega arith
 
   pub same_length : (ts : List Tally) → length (updated pc as_read ts) ≡ length ts
   same_length [] = refl
-  same_length (t ∷ ts) = go (t.pc == pc) (same_length ts)
+  same_length (t ∷ ts) = at_first (t.pc == pc) (same_length ts)
     where
-      go : (b : Bool) → length (updated pc as_read ts) ≡ length ts → length (cond b (as_read t ∷ ts) (t ∷ updated pc as_read ts)) ≡ length (t ∷ ts)
-      go true rest = omega arith
-      go false rest = omega arith
+      at_first : (b : Bool) → length (updated pc as_read ts) ≡ length ts → length (cond b (as_read t ∷ ts) (t ∷ updated pc as_read ts)) ≡ length (t ∷ ts)
+      at_first true rest = omega arith
+      at_first false rest = omega arith
 
   same_room : (ts : List Tally) → All HasRoom ts → All HasRoom (updated pc as_read ts)
   same_room [] room = room
-  same_room (t ∷ ts) room = go (t.pc == pc) (same_room ts (All-tail HasRoom t ts room))
+  same_room (t ∷ ts) room = at_first (t.pc == pc) (same_room ts (All-tail HasRoom t ts room))
     where
       first : HasRoom t
       first = All-head HasRoom t ts room
 
-      go : (b : Bool) → All HasRoom (updated pc as_read ts) → All HasRoom (cond b (as_read t ∷ ts) (t ∷ updated pc as_read ts))
-      go true rest =
+      at_first : (b : Bool) → All HasRoom (updated pc as_read ts) → All HasRoom (cond b (as_read t ∷ ts) (t ∷ updated pc as_read ts))
+      at_first true rest =
           All-cons HasRoom (as_read t) ts (record { executed = first.executed; taken = first.taken; targets_rise = first.targets_rise }) (All-tail HasRoom t ts room)
-      go false rest = All-cons HasRoom t (updated pc as_read ts) first rest
+      at_first false rest = All-cons HasRoom t (updated pc as_read ts) first rest
 
 -- the numbers of rows and of targets, and the room
 pub record Stays (ts us : List Tally) : Type 0 where
@@ -120,30 +120,30 @@ marked_again (suc pc) ts = again ts
   where
     again : (ts : List Tally) → updated pc as_read (updated pc as_read ts) ≡ updated pc as_read ts
     again [] = refl
-    again (t ∷ ts) = go (t.pc == pc) refl (again ts)
+    again (t ∷ ts) = at_first (t.pc == pc) refl (again ts)
       where
-        go : (b : Bool) → (t.pc == pc) ≡ b → updated pc as_read (updated pc as_read ts) ≡ updated pc as_read ts
+        at_first : (b : Bool) → (t.pc == pc) ≡ b → updated pc as_read (updated pc as_read ts) ≡ updated pc as_read ts
             → updated pc as_read (cond b (as_read t ∷ ts) (t ∷ updated pc as_read ts)) ≡ cond b (as_read t ∷ ts) (t ∷ updated pc as_read ts)
-        go true e rest = ap (λ c. cond c (as_read (as_read t) ∷ ts) (as_read t ∷ updated pc as_read ts)) e
-        go false e rest = ap (λ c. cond c (as_read t ∷ updated pc as_read ts) (t ∷ updated pc as_read (updated pc as_read ts))) e ∙ ap (λ us. t ∷ us) rest
+        at_first true e rest = ap (λ c. cond c (as_read (as_read t) ∷ ts) (as_read t ∷ updated pc as_read ts)) e
+        at_first false e rest = ap (λ c. cond c (as_read t ∷ updated pc as_read ts) (t ∷ updated pc as_read (updated pc as_read ts))) e ∙ ap (λ us. t ∷ us) rest
 
 -- marks are noted in any order
 swapped : (p q : ℕ) (ts : List Tally) → updated p as_read (updated q as_read ts) ≡ updated q as_read (updated p as_read ts)
 swapped p q [] = refl
-swapped p q (t ∷ ts) = go (t.pc == p) (t.pc == q) refl refl (swapped p q ts)
+swapped p q (t ∷ ts) = at_first (t.pc == p) (t.pc == q) refl refl (swapped p q ts)
   where
-    go : (x y : Bool) → (t.pc == p) ≡ x → (t.pc == q) ≡ y → updated p as_read (updated q as_read ts) ≡ updated q as_read (updated p as_read ts)
+    at_first : (x y : Bool) → (t.pc == p) ≡ x → (t.pc == q) ≡ y → updated p as_read (updated q as_read ts) ≡ updated q as_read (updated p as_read ts)
         → updated p as_read (cond y (as_read t ∷ ts) (t ∷ updated q as_read ts)) ≡ updated q as_read (cond x (as_read t ∷ ts) (t ∷ updated p as_read ts))
-    go true true e f rest =
+    at_first true true e f rest =
         ap (λ c. cond c (as_read (as_read t) ∷ ts) (as_read t ∷ updated p as_read ts)) e
         ∙ sym (ap (λ c. cond c (as_read (as_read t) ∷ ts) (as_read t ∷ updated q as_read ts)) f)
-    go true false e f rest =
+    at_first true false e f rest =
         ap (λ c. cond c (as_read t ∷ updated q as_read ts) (t ∷ updated p as_read (updated q as_read ts))) e
         ∙ sym (ap (λ c. cond c (as_read (as_read t) ∷ ts) (as_read t ∷ updated q as_read ts)) f)
-    go false true e f rest =
+    at_first false true e f rest =
         ap (λ c. cond c (as_read (as_read t) ∷ ts) (as_read t ∷ updated p as_read ts)) e
         ∙ sym (ap (λ c. cond c (as_read t ∷ updated p as_read ts) (t ∷ updated q as_read (updated p as_read ts))) f)
-    go false false e f rest =
+    at_first false false e f rest =
         ap (λ c. cond c (as_read t ∷ updated q as_read ts) (t ∷ updated p as_read (updated q as_read ts))) e
         ∙ ap (λ us. t ∷ us) rest
         ∙ sym (ap (λ c. cond c (as_read t ∷ updated p as_read ts) (t ∷ updated q as_read (updated p as_read ts))) f)

@@ -12,10 +12,10 @@ use Rattle.report.proofs.Gained.{gains-none, gains-append, part_first, part_behi
 pub stopped : {told left : Option (List ℕ)} {before now : ℕ} {text : List ℕ} {r : Result Unit SinkErr} (first more : List ℕ) (q : Result Unit SinkErr) (e : SinkErr)
     → PutsText told left before now text r → r ≡ Err e → q ≡ Err e → text ≡ first → PutsText told left before now (first ++ more) q
 stopped {told = told} {left = left} {before = before} {now = now} {text = text} first more q e h r_is q_is same =
-    subst (λ z. PutsText told left before now (first ++ more) z) (sym q_is) (go (subst (λ z. PutsText told left before now text z) r_is h))
+    subst (λ z. PutsText told left before now (first ++ more) z) (sym q_is) (with_more (subst (λ z. PutsText told left before now text z) r_is h))
   where
-    go : PutsText told left before now text (Err e) → PutsText told left before now (first ++ more) (Err e)
-    go p = record {
+    with_more : PutsText told left before now text (Err e) → PutsText told left before now (first ++ more) (Err e)
+    with_more p = record {
       never_falls = p.never_falls;
       ok = tt;
       failed = p.failed;
@@ -48,10 +48,10 @@ behind {told = told} {mid = mid} {left = left} {before = before} {middle = middl
 pub stopped_within : {mid left : Option (List ℕ)} {middle now : ℕ} {waited waits : List ℕ} {r : Result Unit SinkErr} (told : Option (List ℕ)) (before : ℕ) (put rest all : List ℕ) (q : Result Unit SinkErr) (e : SinkErr)
     → before ≤ middle → Gains told mid put → all ≡ put ++ (waited ++ rest) → PutsSome mid left middle now waited waits r → r ≡ Err e → q ≡ Err e → PutsText told left before now all q
 stopped_within {mid = mid} {left = left} {middle = middle} {now = now} {waited = waited} {waits = waits} told before put rest all q e l g is h r_is q_is =
-    subst (λ z. PutsText told left before now all z) (sym q_is) (go (subst (λ z. PutsSome mid left middle now waited waits z) r_is h))
+    subst (λ z. PutsText told left before now all z) (sym q_is) (within_all (subst (λ z. PutsSome mid left middle now waited waits z) r_is h))
   where
-    go : PutsSome mid left middle now waited waits (Err e) → PutsText told left before now all (Err e)
-    go p = record {
+    within_all : PutsSome mid left middle now waited waits (Err e) → PutsText told left before now all (Err e)
+    within_all p = record {
       never_falls = (let b = p.never_falls in omega (arith, l, b));
       ok = tt;
       failed = (λ x. let rose = p.failed x in omega (arith, l, rose));

@@ -22,11 +22,11 @@ module _ (whole left first rest : Bool) (split : left ≡ (first || rest)) (star
       none false y e = refl
 
   marked_then : (whole ≡ true → left ≡ false → before ≡ mark) → whole ≡ true → rest ≡ false → after ≡ mark
-  marked_then was e later = by first refl
+  marked_then was e later = if_first first refl
     where
-      by : (b : Bool) → first ≡ b → after ≡ mark
-      by true f = put ∙ cond-true first mark before f
-      by false f = let out : left ≡ false = split ∙ ap (λ b. b || rest) f ∙ later in not_first out ∙ was e out
+      if_first : (b : Bool) → first ≡ b → after ≡ mark
+      if_first true f = put ∙ cond-true first mark before f
+      if_first false f = let out : left ≡ false = split ∙ ap (λ b. b || rest) f ∙ later in not_first out ∙ was e out
 
   others_then : (left ≡ true → whole ≡ true) → (whole ≡ false → before ≡ start) → whole ≡ false → after ≡ start
   others_then within was e = not_first (out left within) ∙ was e
