@@ -20,28 +20,29 @@ fn files_are_written_whole_and_read_up_to_the_limit(rt: HostRuntime) -> Result<(
     let mut store = FileStore::new(&rt);
 
     let long = vec![in alloc; 7; 200000]?;
-    assert_eq!(rt; store.write(alloc, name.as_str(), long.as_slice()), Ok(()));
-    assert_eq!(rt;
-        store.read(alloc, name.as_str(), 200000)?.as_slice(),
-        long.as_slice()
-    );
-    assert_eq!(rt;
-        store.read(alloc, name.as_str(), 199999).err(),
-        Some(StoreErr::TooLong)
-    );
-    assert_eq!(rt; store.write(alloc, name.as_str(), b"short"), Ok(()));
-    assert_eq!(rt;
-        store.read(alloc, name.as_str(), 200000)?.as_slice(),
-        b"short".as_slice()
-    );
+    let written = store.write(alloc, name.as_str(), long.as_slice()).err();
+    let whole = store.read(alloc, name.as_str(), 200000)?;
+    assert_eq!(rt; whole.as_slice(), long.as_slice());
+    let too_long = store.read(alloc, name.as_str(), 199999).err();
+    let rewritten = store.write(alloc, name.as_str(), b"short").err();
+    let short = store.read(alloc, name.as_str(), 200000)?;
+    assert_eq!(rt; short.as_slice(), b"short".as_slice());
 
     fs::remove_file(&rt, name.as_str())?;
+    let absent = store.read(alloc, name.as_str(), 5).err();
+    let read = store.read(alloc, "/", 5).err();
+    let put = store.write(alloc, "/", b"short").err();
     assert_eq!(rt;
-        store.read(alloc, name.as_str(), 5).err(),
-        Some(StoreErr::Absent)
+        [written, too_long, rewritten, absent, read, put],
+        [
+            None,
+            Some(StoreErr::TooLong),
+            None,
+            Some(StoreErr::Absent),
+            Some(StoreErr::Failed),
+            Some(StoreErr::Failed),
+        ]
     );
-    assert_eq!(rt; store.read(alloc, "/", 5).err(), Some(StoreErr::Failed));
-    assert_eq!(rt; store.write(alloc, "/", b"short"), Err(StoreErr::Failed));
     Ok(())
 }
 

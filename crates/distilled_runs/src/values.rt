@@ -185,26 +185,28 @@ fn values_of_no_analysed_load_play_no_part(rt: HostRuntime) -> Result<(), Fail> 
     Ok(())
 }
 
+/// Lists of values, and why they are refused.
+static REFUSED_LISTS: [(&[u8], &str); 8] = [
+    (b"MSPV\x01\0\0\0\0\0\0", "short"),
+    (b"MSPV\x01\0\0\0\x01\0\0\0\x08\0\x01\0\0\0\0", "short"),
+    (b"MSPF\x02\0\0\0\0\0\0\0", "magic"),
+    (b"MSPV\x02\0\0\0\x01\0\x08\0", "version"),
+    (b"MSPV\x01\0\0\0\x01\0\x08\0", "too many"),
+    (
+        b"MSPV\x01\0\0\0\x01\0\0\0\x08\0\x01\0\x01\x08\0\0",
+        "range 0",
+    ),
+    (
+        b"MSPV\x01\0\0\0\x02\0\0\0\x08\0\0\0\0\0\0\0\x08\0\0\0\0\0\0\0",
+        "order 1",
+    ),
+    (b"MSPV\x01\0\0\0\0\0\0\0\0", "long"),
+];
+
 #[test]
 fn lists_of_values_are_refused(rt: HostRuntime) -> Result<(), Fail> {
     let alloc = rt.alloc();
-    let cases: [(&[u8], &str); 8] = [
-        (b"MSPV\x01\0\0\0\0\0\0", "short"),
-        (b"MSPV\x01\0\0\0\x01\0\0\0\x08\0\x01\0\0\0\0", "short"),
-        (b"MSPF\x02\0\0\0\0\0\0\0", "magic"),
-        (b"MSPV\x02\0\0\0\x01\0\x08\0", "version"),
-        (b"MSPV\x01\0\0\0\x01\0\x08\0", "too many"),
-        (
-            b"MSPV\x01\0\0\0\x01\0\0\0\x08\0\x01\0\x01\x08\0\0",
-            "range 0",
-        ),
-        (
-            b"MSPV\x01\0\0\0\x02\0\0\0\x08\0\0\0\0\0\0\0\x08\0\0\0\0\0\0\0",
-            "order 1",
-        ),
-        (b"MSPV\x01\0\0\0\0\0\0\0\0", "long"),
-    ];
-    for (values, what) in cases {
+    for &(values, what) in &REFUSED_LISTS {
         let words = ["distill", "p", "m", "r", "--values", "e"];
         let profile = bytes_of(alloc, &COMPARE_LOOP_PROFILE)?;
         let left = perform(
@@ -254,19 +256,21 @@ fn earlier_files_are_refused_first(rt: HostRuntime) -> Result<(), Fail> {
     Ok(())
 }
 
+/// Words of a command, the call of the store that fails, and the name that is told.
+static STORE_FAULTS: [(&[&str], u64, &str); 7] = [
+    (&["values", "p", "r", "--input", "i"], 1, "p"),
+    (&["values", "p", "r", "--input", "i"], 2, "i"),
+    (&["values", "p", "r", "--input", "i"], 3, "r"),
+    (&["distill", "p", "m", "r", "--values", "e"], 1, "p"),
+    (&["distill", "p", "m", "r", "--values", "e"], 2, "m"),
+    (&["distill", "p", "m", "r", "--values", "e"], 3, "e"),
+    (&["distill", "p", "m", "r", "--values", "e"], 4, "r"),
+];
+
 #[test]
 fn faults_of_the_store_are_told(rt: HostRuntime) -> Result<(), Fail> {
     let alloc = rt.alloc();
-    let cases: [(&[&str], u64, &str); 7] = [
-        (&["values", "p", "r", "--input", "i"], 1, "p"),
-        (&["values", "p", "r", "--input", "i"], 2, "i"),
-        (&["values", "p", "r", "--input", "i"], 3, "r"),
-        (&["distill", "p", "m", "r", "--values", "e"], 1, "p"),
-        (&["distill", "p", "m", "r", "--values", "e"], 2, "m"),
-        (&["distill", "p", "m", "r", "--values", "e"], 3, "e"),
-        (&["distill", "p", "m", "r", "--values", "e"], 4, "r"),
-    ];
-    for (words, store, name) in cases {
+    for &(words, store, name) in &STORE_FAULTS {
         let fails = Fails {
             store,
             out: 1,

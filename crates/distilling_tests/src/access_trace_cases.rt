@@ -40,19 +40,24 @@ fn no_byte_is_marked(rt: HostRuntime) -> Result<(), Fail> {
 fn words_and_bytes(rt: HostRuntime) -> Result<(), Fail> {
     let mut shadow = shadow(rt.alloc())?;
     shadow.put(rt.alloc(), span(4, 0x1_0000), 5)?;
-    assert_eq!(rt; marks(&shadow, 0x1_0000), [5, 5, 5, 5, 0, 0, 0, 0]);
+    let word = marks(&shadow, 0x1_0000);
     shadow.put(rt.alloc(), span(2, 0x1_0003), 0x1_0009)?;
-    assert_eq!(rt;
-        marks(&shadow, 0x1_0000),
-        [5, 5, 5, 0x1_0009, 0x1_0009, 0, 0, 0]
-    );
-    assert_eq!(rt; shadow.common(span(3, 0x1_0000)), Some(5));
-    assert_eq!(rt; shadow.common(span(2, 0x1_0002)), None);
+    let half = marks(&shadow, 0x1_0000);
+    let within = shadow.common(span(3, 0x1_0000));
+    let across = shadow.common(span(2, 0x1_0002));
     shadow.put(rt.alloc(), span(4, 0x1_0000), 9)?;
-    assert_eq!(rt; shadow.common(span(3, 0x1_0001)), Some(9));
-    assert_eq!(rt; marks(&shadow, 0x1_0000), [9, 9, 9, 9, 0x1_0009, 0, 0, 0]);
+    let over = shadow.common(span(3, 0x1_0001));
+    let whole = marks(&shadow, 0x1_0000);
     shadow.put(rt.alloc(), span(1, 0x1_0004), 0)?;
-    assert_eq!(rt; marks(&shadow, 0x1_0000), [9, 9, 9, 9, 0, 0, 0, 0]);
+    let byte = marks(&shadow, 0x1_0000);
+    assert_eq!(rt; (within, across, over), (Some(5), None, Some(9)));
+    let want = [
+        [5, 5, 5, 5, 0, 0, 0, 0],
+        [5, 5, 5, 0x1_0009, 0x1_0009, 0, 0, 0],
+        [9, 9, 9, 9, 0x1_0009, 0, 0, 0],
+        [9, 9, 9, 9, 0, 0, 0, 0],
+    ];
+    assert_eq!(rt; [word, half, whole, byte], want);
     Ok(())
 }
 

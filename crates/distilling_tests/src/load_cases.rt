@@ -78,33 +78,34 @@ fn another_word_in_the_place_of_a_load(rt: HostRuntime) -> Result<(), Fail> {
     Ok(())
 }
 
-/// The tests of a file that fail, in their order.
+/// Files, and the first test of each that fails, in the order of the tests.
+static REFUSED_FILES: [(&[u8], ValuesErr); 9] = [
+    (b"MSPV\x01\0\0\0\0\0\0", ValuesErr::Short),
+    (b"MSPF\x02\0\0\0\0\0\0\0", ValuesErr::Magic),
+    (b"MSPV\x02\0\0\0\x01\0\x08\0", ValuesErr::Version),
+    (b"MSPV\x01\0\0\0\x01\0\x08\0", ValuesErr::TooMany),
+    (
+        b"MSPV\x01\0\0\0\x01\0\0\0\x09\0\x01\0\0\0\0",
+        ValuesErr::Short,
+    ),
+    (
+        b"MSPV\x01\0\0\0\x01\0\0\0\x09\0\x01\0\0\0\0\0",
+        ValuesErr::Range(0),
+    ),
+    (
+        b"MSPV\x01\0\0\0\x01\0\0\0\x08\0\x01\0\x01\x08\0\0",
+        ValuesErr::Range(0),
+    ),
+    (
+        b"MSPV\x01\0\0\0\x02\0\0\0\x08\0\0\0\0\0\0\0\x08\0\0\0\0\0\0\0",
+        ValuesErr::Order(1),
+    ),
+    (b"MSPV\x01\0\0\0\0\0\0\0\0", ValuesErr::Long),
+];
+
 #[test]
 fn files_that_are_refused(rt: HostRuntime) -> Result<(), Fail> {
-    let cases: [(&[u8], ValuesErr); 9] = [
-        (b"MSPV\x01\0\0\0\0\0\0", ValuesErr::Short),
-        (b"MSPF\x02\0\0\0\0\0\0\0", ValuesErr::Magic),
-        (b"MSPV\x02\0\0\0\x01\0\x08\0", ValuesErr::Version),
-        (b"MSPV\x01\0\0\0\x01\0\x08\0", ValuesErr::TooMany),
-        (
-            b"MSPV\x01\0\0\0\x01\0\0\0\x09\0\x01\0\0\0\0",
-            ValuesErr::Short,
-        ),
-        (
-            b"MSPV\x01\0\0\0\x01\0\0\0\x09\0\x01\0\0\0\0\0",
-            ValuesErr::Range(0),
-        ),
-        (
-            b"MSPV\x01\0\0\0\x01\0\0\0\x08\0\x01\0\x01\x08\0\0",
-            ValuesErr::Range(0),
-        ),
-        (
-            b"MSPV\x01\0\0\0\x02\0\0\0\x08\0\0\0\0\0\0\0\x08\0\0\0\0\0\0\0",
-            ValuesErr::Order(1),
-        ),
-        (b"MSPV\x01\0\0\0\0\0\0\0\0", ValuesErr::Long),
-    ];
-    for (bytes, expected) in cases {
+    for &(bytes, expected) in &REFUSED_FILES {
         assert_eq!(rt; read_values(rt.alloc(), bytes).err(), Some(expected));
     }
     Ok(())

@@ -46,31 +46,33 @@ fn refusal(alloc: Global, file: &[u8]) -> Option<EventErr> {
     read_events(alloc, file).err()
 }
 
+/// Lines whose count, or whose number of a slave, is none.
+static COUNTS_AND_NUMBERS: [&[u8]; 20] = [
+    b"0 master",
+    b"00 master",
+    b"01 master",
+    b"+1 master",
+    b"-1 master",
+    b"1_0 master",
+    b"0x1 master",
+    b"1.0 master",
+    b"100000001 master",
+    b"1000000000 master",
+    b"4294967297 master",
+    b"18446744073709551617 master",
+    b"100000000000000000000000000000000000000001 master",
+    b"1 slave 00",
+    b"1 slave 05",
+    b"1 slave 64",
+    b"1 slave 256",
+    b"1 slave +1",
+    b"1 slave x",
+    b"1 slave 4294967296",
+];
+
 #[test]
 fn refuses_counts_and_numbers(rt: HostRuntime) {
-    let lines: [&[u8]; 20] = [
-        b"0 master",
-        b"00 master",
-        b"01 master",
-        b"+1 master",
-        b"-1 master",
-        b"1_0 master",
-        b"0x1 master",
-        b"1.0 master",
-        b"100000001 master",
-        b"1000000000 master",
-        b"4294967297 master",
-        b"18446744073709551617 master",
-        b"100000000000000000000000000000000000000001 master",
-        b"1 slave 00",
-        b"1 slave 05",
-        b"1 slave 64",
-        b"1 slave 256",
-        b"1 slave +1",
-        b"1 slave x",
-        b"1 slave 4294967296",
-    ];
-    for line in lines {
+    for &line in &COUNTS_AND_NUMBERS {
         assert_eq!(rt;
             refusal(rt.alloc(), line),
             Some(EventErr::Line(1)),
@@ -79,37 +81,39 @@ fn refuses_counts_and_numbers(rt: HostRuntime) {
     }
 }
 
+/// Lines whose words, or whose spaces, are those of no event.
+static WORDS_AND_SPACES: [&[u8]; 26] = [
+    b" ",
+    b"1",
+    b"1 ",
+    b"master",
+    b" master",
+    b"1 master ",
+    b" 1 master",
+    b"1  master",
+    b"1\tmaster",
+    b"1 master\t",
+    b"1master",
+    b"1 Master",
+    b"1 maste",
+    b"1 masters",
+    b"1 idle",
+    b"1 slave",
+    b"1 slave ",
+    b"1 slave0",
+    b"1 slave  0",
+    b"1 slave 0 ",
+    b" # comment",
+    b"1 master # comment",
+    b"\r",
+    b"1 master\r",
+    b"1 m\xC3\xA4ster",
+    b"1 master\0",
+];
+
 #[test]
 fn refuses_words_and_spaces(rt: HostRuntime) {
-    let lines: [&[u8]; 26] = [
-        b" ",
-        b"1",
-        b"1 ",
-        b"master",
-        b" master",
-        b"1 master ",
-        b" 1 master",
-        b"1  master",
-        b"1\tmaster",
-        b"1 master\t",
-        b"1master",
-        b"1 Master",
-        b"1 maste",
-        b"1 masters",
-        b"1 idle",
-        b"1 slave",
-        b"1 slave ",
-        b"1 slave0",
-        b"1 slave  0",
-        b"1 slave 0 ",
-        b" # comment",
-        b"1 master # comment",
-        b"\r",
-        b"1 master\r",
-        b"1 m\xC3\xA4ster",
-        b"1 master\0",
-    ];
-    for line in lines {
+    for &line in &WORDS_AND_SPACES {
         assert_eq!(rt;
             refusal(rt.alloc(), line),
             Some(EventErr::Line(1)),

@@ -74,23 +74,21 @@ fn a_sure_store_takes_new_files_and_old_names(rt: HostRuntime) -> Result<(), Fai
 fn a_store_fails_at_the_listed_calls(rt: HostRuntime) -> Result<(), Fail> {
     let alloc = rt.alloc();
     let mut store = MemStore::new(alloc, two_files(alloc)?, vec![in alloc; 2, 4]?)?;
-    assert_eq!(rt; write(alloc, &mut store, "c", b"third"), Ok(()));
-    assert_eq!(rt;
-        read(alloc, &mut store, "a", 5).err(),
-        Some(StoreErr::Failed)
-    );
-    assert_eq!(rt;
-        read(alloc, &mut store, "c", 4).err(),
-        Some(StoreErr::TooLong)
-    );
-    assert_eq!(rt;
-        write(alloc, &mut store, "a", b"lost"),
-        Err(StoreErr::Failed)
-    );
+    let first = write(alloc, &mut store, "c", b"third").err();
+    let second = read(alloc, &mut store, "a", 5).err();
+    let past_its_limit = read(alloc, &mut store, "c", 4).err();
+    let fourth = write(alloc, &mut store, "a", b"lost").err();
     assert_eq!(rt; store.file("a"), Some(b"first".as_slice()));
+    let nowhere = read(alloc, &mut store, "d", 4).err();
     assert_eq!(rt;
-        read(alloc, &mut store, "d", 4).err(),
-        Some(StoreErr::Absent)
+        [first, second, past_its_limit, fourth, nowhere],
+        [
+            None,
+            Some(StoreErr::Failed),
+            Some(StoreErr::TooLong),
+            Some(StoreErr::Failed),
+            Some(StoreErr::Absent),
+        ]
     );
     let third = read(alloc, &mut store, "c", 5)?;
     assert_eq!(rt; third.as_slice(), b"third".as_slice());

@@ -65,15 +65,15 @@ fn beside<L: Ledger>(
 #[test]
 fn a_put_wraps(rt: HostRuntime) -> Result<(), Fail> {
     let mut tree = around::<Brand>(rt.alloc(), Blank::new(1))?;
-    assert_eq!(rt; tree.get(LAST), 1);
-    assert_eq!(rt; tree.get(0), 2);
-    assert_eq!(rt; tree.get(1), 3);
-    assert_eq!(rt; tree.get(2), 0);
-    assert_eq!(rt; tree.half(LAST), 0x0201);
-    assert_eq!(rt; tree.word(0xFFFF_FFFE), 0x0302_0100);
-    assert_eq!(rt; tree.fetch(0), 0x0000_0302);
+    let bytes = [tree.get(LAST), tree.get(0), tree.get(1), tree.get(2)];
+    assert_eq!(rt; bytes, [1, 2, 3, 0]);
+    let (half, word, fetched) = (tree.half(LAST), tree.word(0xFFFF_FFFE), tree.fetch(0));
     tree.put_word(rt.alloc(), 0, 7)?;
-    assert_eq!(rt; tree.fetch(0), 7);
+    let after = tree.fetch(0);
+    assert_eq!(rt;
+        (half, word, fetched, after),
+        (0x0201, 0x0302_0100, 0x0000_0302, 7)
+    );
     Ok(())
 }
 
