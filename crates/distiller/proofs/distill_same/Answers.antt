@@ -56,7 +56,7 @@ returns-clause-image c =
     let same = c.args.same.now in
     let limit = c.requires.range.limit in
     subst IsImage (sym (is_distilled c))
-    (distilled_is_image word c.args.p.now.entry f (loads word f.rows same) c.args.o.now c.p-has_words.ensures c.len-rows.ensures.valid
+    (distilled_is_image word c.args.p.now.entry f (loads word f.rows same) c.args.o.now c.has_words.ensures c.len-rows.ensures.valid
     (are_loads word f.rows same c.requires.given.words) limit.0 limit.1)
 
 pub returns-clause-fits : goal.returns-clause-fits
@@ -65,7 +65,7 @@ returns-clause-fits c =
     let f = c.args.f.now in
     let same = c.args.same.now in
     subst (Fits word) (sym (is_distilled c))
-    (distilled_fits word c.args.p.now.entry f (loads word f.rows same) c.args.o.now c.p-has_words.ensures c.len-rows.ensures.valid
+    (distilled_fits word c.args.p.now.entry f (loads word f.rows same) c.args.o.now c.has_words.ensures c.len-rows.ensures.valid
     (are_loads word f.rows same c.requires.given.words))
 
 pub returns-clause-holds : goal.returns-clause-holds
@@ -75,5 +75,5 @@ returns-clause-holds c calls input n is given rare =
     let same = c.args.same.now in
     let start = start_of c.args.p.now input in
     subst (λ (image : Distilled). ListHolds start image f.rows n) (sym (is_distilled c))
-    (exactly calls start n c.args.p.now.entry f (loads word f.rows same) c.args.o.now c.p-has_words.ensures is
+    (exactly calls start n c.args.p.now.entry f (loads word f.rows same) c.args.o.now c.has_words.ensures is
     (all_loads word f.rows (IsLoaded start n) same given) rare)
