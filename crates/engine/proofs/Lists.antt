@@ -44,11 +44,11 @@ first_goes g w j (x ∷ xs) (suc i) d l runs before =
 
 -- where no element passes, none before the end does
 pub none_passes : {X : Type 0} (p : X → Bool) (xs : List X) → position p xs ≡ None → (k : ℕ) (d : X) → k < length xs → p (get_or xs k d) ≡ false
-none_passes p xs e k d l = go (nat_lt (position_or_len p xs) (length xs)) refl e
+none_passes p xs e k d l = none_if_within (nat_lt (position_or_len p xs) (length xs)) refl e
   where
-    go : (b : Bool) → nat_lt (position_or_len p xs) (length xs) ≡ b → cond b (Some (position_or_len p xs)) None ≡ None → p (get_or xs k d) ≡ false
-    go true is h = absurd (cc)
-    go false is h = let far = ltb-false (position_or_len p xs) (length xs) is in fails_before_first p xs k d (omega (arith, l, far))
+    none_if_within : (b : Bool) → nat_lt (position_or_len p xs) (length xs) ≡ b → cond b (Some (position_or_len p xs)) None ≡ None → p (get_or xs k d) ≡ false
+    none_if_within true is h = absurd (cc)
+    none_if_within false is h = let far = ltb-false (position_or_len p xs) (length xs) is in fails_before_first p xs k d (omega (arith, l, far))
 
 -- what passes is still running
 pub running : (b : Bool) (o : Option Ending) → (b && not (is_some o)) ≡ true → is_some o ≡ false

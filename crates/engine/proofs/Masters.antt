@@ -62,12 +62,12 @@ forking_is (Some (Fork j)) k e = let same : j ≡ k = cc in ap (λ n. Some (Fork
 
 pub due_is : (image : Distilled) (a : Master) (k : ℕ) → next_spawn image a ≡ Some k → IsDue image a k
 unfolding next_spawn
-due_is image a k e = go (nat_lt a.spent (4 * image.limit + 4)) (nat_eq a.left 1) refl refl e
+due_is image a k e = due_if_able (nat_lt a.spent (4 * image.limit + 4)) (nat_eq a.left 1) refl refl e
   where
-    go : (b c : Bool) → nat_lt a.spent (4 * image.limit + 4) ≡ b → nat_eq a.left 1 ≡ c → cond (b && c) (forking (slice_get image.slots a.slot)) None ≡ Some k → IsDue image a k
-    go true true s l h = record { spent = s; left = l; slot = forking_is (slice_get image.slots a.slot) k h }
-    go true false s l h = absurd (cc)
-    go false c s l h = absurd (cc)
+    due_if_able : (b c : Bool) → nat_lt a.spent (4 * image.limit + 4) ≡ b → nat_eq a.left 1 ≡ c → cond (b && c) (forking (slice_get image.slots a.slot)) None ≡ Some k → IsDue image a k
+    due_if_able true true s l h = record { spent = s; left = l; slot = forking_is (slice_get image.slots a.slot) k h }
+    due_if_able true false s l h = absurd (cc)
+    due_if_able false c s l h = absurd (cc)
 
 -- the master that there is has this spawn due
 next_is : (image : Distilled) (o : Option Master) (a : Master) (k : ℕ) → o ≡ Some a → due_at image o ≡ Some k → next_spawn image a ≡ Some k
@@ -148,11 +148,11 @@ go_acts a arch (Some slot) = tt
 fork_acts : (image : Distilled) (room : Bool) (a : Master) (k : ℕ) (o : Option Anchor) → nat_lt a.spent (4 * image.limit + 4) ≡ true → slice_get image.slots a.slot ≡ Some (Fork k) → next_spawn image a ≡ None → Acts (fork room a o)
 unfolding next_spawn
 fork_acts image room a k None s at due = tt
-fork_acts image room a k (Some x) s at due = go (nat_eq a.left 1) refl
+fork_acts image room a k (Some x) s at due = acts_if_last (nat_eq a.left 1) refl
   where
-    go : (b : Bool) → nat_eq a.left 1 ≡ b → Acts (cond b (cond room (Spawns x.pc (record { slot = a.slot + 1; arch = a.arch; left = x.count; spent = 0 })) Stays) (Goes (record { slot = a.slot + 1; arch = a.arch; left = a.left - 1; spent = suc a.spent })))
-    go false l = tt
-    go true l =
+    acts_if_last : (b : Bool) → nat_eq a.left 1 ≡ b → Acts (cond b (cond room (Spawns x.pc (record { slot = a.slot + 1; arch = a.arch; left = x.count; spent = 0 })) Stays) (Goes (record { slot = a.slot + 1; arch = a.arch; left = a.left - 1; spent = suc a.spent })))
+    acts_if_last false l = tt
+    acts_if_last true l =
         let is : next_spawn image a ≡ Some k = λ i. cond (s i && l i) (forking (at i)) None in
         let no : None ≡ Some k = sym due ∙ is in
         absurd (cc)
@@ -161,19 +161,19 @@ slot_acts : (image : Distilled) (room : Bool) (a : Master) (o : Option Slot) →
 slot_acts image room a None s at due = tt
 slot_acts image room a (Some (Fork k)) s at due = fork_acts image room a k (slice_get image.anchors k) s at due
 slot_acts image room a (Some (Go target)) s at due = go_acts a a.arch (slot_of image target)
-slot_acts image room a (Some (Exec origin word)) s at due = go ((exec_in (prints_at image) word).stops (record a.arch { pc = origin }))
+slot_acts image room a (Some (Exec origin word)) s at due = acts_if_stops ((exec_in (prints_at image) word).stops (record a.arch { pc = origin }))
   where
-    go : (b : Bool) → Acts (cond b (Halts (why_of (effect_at (meaning word) origin (value (record a.arch { pc = origin }))).flow)) (go_to a ((exec_in (prints_at image) word).move (record a.arch { pc = origin })) (slot_of image ((exec_in (prints_at image) word).move (record a.arch { pc = origin })).pc)))
-    go true = tt
-    go false = go_acts a ((exec_in (prints_at image) word).move (record a.arch { pc = origin })) (slot_of image ((exec_in (prints_at image) word).move (record a.arch { pc = origin })).pc)
+    acts_if_stops : (b : Bool) → Acts (cond b (Halts (why_of (effect_at (meaning word) origin (value (record a.arch { pc = origin }))).flow)) (go_to a ((exec_in (prints_at image) word).move (record a.arch { pc = origin })) (slot_of image ((exec_in (prints_at image) word).move (record a.arch { pc = origin })).pc)))
+    acts_if_stops true = tt
+    acts_if_stops false = go_acts a ((exec_in (prints_at image) word).move (record a.arch { pc = origin })) (slot_of image ((exec_in (prints_at image) word).move (record a.arch { pc = origin })).pc)
 
 drive_acts : (image : Distilled) (room : Bool) (a : Master) → next_spawn image a ≡ None → Acts (drive image room a)
 unfolding drive
-drive_acts image room a due = go (nat_lt a.spent (4 * image.limit + 4)) refl
+drive_acts image room a due = acts_if_able (nat_lt a.spent (4 * image.limit + 4)) refl
   where
-    go : (b : Bool) → nat_lt a.spent (4 * image.limit + 4) ≡ b → Acts (cond b (slot_done image room a (slice_get image.slots a.slot)) (Halts why.Spent))
-    go true s = slot_acts image room a (slice_get image.slots a.slot) s refl due
-    go false s = tt
+    acts_if_able : (b : Bool) → nat_lt a.spent (4 * image.limit + 4) ≡ b → Acts (cond b (slot_done image room a (slice_get image.slots a.slot)) (Halts why.Spent))
+    acts_if_able true s = slot_acts image room a (slice_get image.slots a.slot) s refl due
+    acts_if_able false s = tt
 
 takes : (w : World) (m : Model) (d : Driven) → Acts d → MayTake (driven w m d).0
 takes w m (Goes b) h = tt

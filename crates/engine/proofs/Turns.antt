@@ -47,20 +47,20 @@ module _ (s f j : ℕ) (slave : j < s) where
   remainder = mod_below f s (omega (arith, slave))
 
   pub place_within : place_of s f j < s
-  place_within = go (nat_le (f % s) j) refl
+  place_within = within_if_behind (nat_le (f % s) j) refl
     where
-      go : (b : Bool) → nat_le (f % s) j ≡ b → cond b (j - f % s) (j + s - f % s) < s
-      go true e = omega (arith, slave)
-      go false e = let l = leb-false (f % s) j e in omega (arith, slave, l)
+      within_if_behind : (b : Bool) → nat_le (f % s) j ≡ b → cond b (j - f % s) (j + s - f % s) < s
+      within_if_behind true e = omega (arith, slave)
+      within_if_behind false e = let l = leb-false (f % s) j e in omega (arith, slave, l)
 
   pub meets_there : (f + place_of s f j) % s ≡ j
-  meets_there = go (nat_le (f % s) j) refl
+  meets_there = meets_if_behind (nat_le (f % s) j) refl
     where
-      go : (b : Bool) → nat_le (f % s) j ≡ b → (f + cond b (j - f % s) (j + s - f % s)) % s ≡ j
-      go true e =
+      meets_if_behind : (b : Bool) → nat_le (f % s) j ≡ b → (f + cond b (j - f % s) (j + s - f % s)) % s ≡ j
+      meets_if_behind true e =
           let l = leb-true (f % s) j e in
           below s f (j - f % s) (omega (arith, slave)) (omega (arith, l, slave)) ∙ omega (arith, l)
-      go false e =
+      meets_if_behind false e =
           let l = leb-false (f % s) j e in
           let r = remainder in
           above s f (j + s - f % s) (omega (arith, slave, l)) (omega (arith, l, r)) r ∙ omega (arith, l, r)

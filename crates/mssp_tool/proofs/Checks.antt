@@ -35,11 +35,11 @@ of_list start image budget (verdict.Met n) h = tt
 of_list start image budget (verdict.Broken i k) h = slice_get_within image.assumptions k h.1.fails.0 h.1.fails.1
 
 pub judged_put : (image : Distilled) (v : Verdict) (out : Puts) (a : Answer) → Got out (verdict_line image v) → a ≡ verdict_answer v → Judged image v out a
-judged_put image v out a got e = subst (Judged image v out) (sym e) (go v got)
+judged_put image v out a got e = subst (Judged image v out) (sym e) (judged_by v got)
   where
-    go : (x : Verdict) → Got out (verdict_line image x) → Judged image x out (verdict_answer x)
-    go (verdict.Met n) g = (g, refl)
-    go (verdict.Broken i k) g = (g, refl)
+    judged_by : (x : Verdict) → Got out (verdict_line image x) → Judged image x out (verdict_answer x)
+    judged_by (verdict.Met n) g = (g, refl)
+    judged_by (verdict.Broken i k) g = (g, refl)
 
 pub checked_cause : (w : WalkCommand) (store : Reads) (out : Puts) (program : Executable) (image : Distilled) (i : List ℕ) (v : Verdict) (a : Answer) → HasCheckFiles store.told w program image i
     → IsVerdict (start_of program i) image w.budget v → Judged image v out a → CheckCause store w out a
@@ -53,22 +53,22 @@ some_is a b e = cc
 
 found_first : (test : Premise → Bool) (n : ℕ) (xs : List Premise) → is_some (first_from test n xs) ≡ true → (j : ℕ) × (x : Premise) × (slice_get xs j ≡ Some x) × (test x ≡ true)
 found_first test n [] e = absurd (true≢false (sym e))
-found_first test n (y ∷ xs) e = go (test y) refl e (found_first test (suc n) xs)
+found_first test n (y ∷ xs) e = found_if_first (test y) refl e (found_first test (suc n) xs)
   where
-    go : (b : Bool) → test y ≡ b → is_some (cond b (Some n) (first_from test (suc n) xs)) ≡ true
+    found_if_first : (b : Bool) → test y ≡ b → is_some (cond b (Some n) (first_from test (suc n) xs)) ≡ true
         → (is_some (first_from test (suc n) xs) ≡ true → (j : ℕ) × (x : Premise) × (slice_get xs j ≡ Some x) × (test x ≡ true))
         → (j : ℕ) × (x : Premise) × (slice_get (y ∷ xs) j ≡ Some x) × (test x ≡ true)
-    go true t e rest = (0, y, refl, t)
-    go false t e rest = let r = rest e in (suc r.0, r.1, r.2, r.3)
+    found_if_first true t e rest = (0, y, refl, t)
+    found_if_first false t e rest = let r = rest e in (suc r.0, r.1, r.2, r.3)
 
 has_first : (test : Premise → Bool) (n : ℕ) (xs : List Premise) (j : ℕ) (x : Premise) → slice_get xs j ≡ Some x → test x ≡ true → is_some (first_from test n xs) ≡ true
 has_first test n [] j x at t = absurd (cc)
 has_first test n (y ∷ xs) zero x at t = ap (λ b. is_some (cond b (Some n) (first_from test (suc n) xs))) (ap test (some_is y x at) ∙ t)
-has_first test n (y ∷ xs) (suc j) x at t = go (test y) (has_first test (suc n) xs j x at t)
+has_first test n (y ∷ xs) (suc j) x at t = has_if_first (test y) (has_first test (suc n) xs j x at t)
   where
-    go : (b : Bool) → is_some (first_from test (suc n) xs) ≡ true → is_some (cond b (Some n) (first_from test (suc n) xs)) ≡ true
-    go true h = refl
-    go false h = h
+    has_if_first : (b : Bool) → is_some (first_from test (suc n) xs) ≡ true → is_some (cond b (Some n) (first_from test (suc n) xs)) ≡ true
+    has_if_first true h = refl
+    has_if_first false h = h
 
 span_only : (x : Premise) → is_span x ≡ true → x ≡ Span
 span_only (Cut at taken) h = absurd (true≢false (sym h))

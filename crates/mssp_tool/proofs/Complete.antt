@@ -433,24 +433,24 @@ module _ (store : Reads) (out : Puts) (files : Files) (told : store.told ≡ Som
 
   -- an answer that is the same whatever plays no part, or want of memory
   either : (f : Fit → Answer) (a : Answer) → ((fit : Fit) → Is a (f fit)) → ((fit : Fit) → a ≡ f fit) ⊎ (a ≡ Memory)
-  either f a h = by a (λ fit. h fit)
+  either f a h = at_each_fit a (λ fit. h fit)
     where
       sure : (b c : Answer) → (b ≡ Memory → ⊥) → Is b c → b ≡ c
       sure b c other (inl e) = e
       sure b c other (inr m) = absurd (other m)
 
-      by : (b : Answer) → ((fit : Fit) → Is b (f fit)) → ((fit : Fit) → b ≡ f fit) ⊎ (b ≡ Memory)
-      by Memory g = inr refl
-      by Usage g = inl (λ fit. sure Usage (f fit) (λ e. cc) (g fit))
-      by (Absent s) g = inl (λ fit. sure (Absent s) (f fit) (λ e. cc) (g fit))
-      by (StoreFault s) g = inl (λ fit. sure (StoreFault s) (f fit) (λ e. cc) (g fit))
-      by SinkFault g = inl (λ fit. sure SinkFault (f fit) (λ e. cc) (g fit))
-      by (TooLong s) g = inl (λ fit. sure (TooLong s) (f fit) (λ e. cc) (g fit))
-      by (Refused r) g = inl (λ fit. sure (Refused r) (f fit) (λ e. cc) (g fit))
-      by Done g = inl (λ fit. sure Done (f fit) (λ e. cc) (g fit))
-      by (Ran pc end) g = inl (λ fit. sure (Ran pc end) (f fit) (λ e. cc) (g fit))
-      by Budget g = inl (λ fit. sure Budget (f fit) (λ e. cc) (g fit))
-      by Broken g = inl (λ fit. sure Broken (f fit) (λ e. cc) (g fit))
+      at_each_fit : (b : Answer) → ((fit : Fit) → Is b (f fit)) → ((fit : Fit) → b ≡ f fit) ⊎ (b ≡ Memory)
+      at_each_fit Memory g = inr refl
+      at_each_fit Usage g = inl (λ fit. sure Usage (f fit) (λ e. cc) (g fit))
+      at_each_fit (Absent s) g = inl (λ fit. sure (Absent s) (f fit) (λ e. cc) (g fit))
+      at_each_fit (StoreFault s) g = inl (λ fit. sure (StoreFault s) (f fit) (λ e. cc) (g fit))
+      at_each_fit SinkFault g = inl (λ fit. sure SinkFault (f fit) (λ e. cc) (g fit))
+      at_each_fit (TooLong s) g = inl (λ fit. sure (TooLong s) (f fit) (λ e. cc) (g fit))
+      at_each_fit (Refused r) g = inl (λ fit. sure (Refused r) (f fit) (λ e. cc) (g fit))
+      at_each_fit Done g = inl (λ fit. sure Done (f fit) (λ e. cc) (g fit))
+      at_each_fit (Ran pc end) g = inl (λ fit. sure (Ran pc end) (f fit) (λ e. cc) (g fit))
+      at_each_fit Budget g = inl (λ fit. sure Budget (f fit) (λ e. cc) (g fit))
+      at_each_fit Broken g = inl (λ fit. sure Broken (f fit) (λ e. cc) (g fit))
 
   module _ (named_program named_image : List ℕ) where
     abbrev after_certified_image : Fit → Distilled → Answer
@@ -466,16 +466,16 @@ module _ (store : Reads) (out : Puts) (files : Files) (told : store.told ≡ Som
         (no_image named_image (after_certified_image fit) a n)
 
     certify_complete : (a : Answer) → CertifyCause store named_program named_image out a → IsCertified files named_program named_image a ⊎ (a ≡ Memory)
-    certify_complete a (inl (h, nothing)) = go (either (certify_answer files named_program named_image) a (uncertified a h))
+    certify_complete a (inl (h, nothing)) = certified_at (either (certify_answer files named_program named_image) a (uncertified a h))
       where
-        go : ((fit : Fit) → a ≡ certify_answer files named_program named_image fit) ⊎ (a ≡ Memory) → IsCertified files named_program named_image a ⊎ (a ≡ Memory)
-        go (inl e) = inl (inl e)
-        go (inr m) = inr m
-    certify_complete a (inr (p, im, fit, hp, hi, is, s)) = go (spoken (fit_line fit) (fit_answer fit) a s)
+        certified_at : ((fit : Fit) → a ≡ certify_answer files named_program named_image fit) ⊎ (a ≡ Memory) → IsCertified files named_program named_image a ⊎ (a ≡ Memory)
+        certified_at (inl e) = inl (inl e)
+        certified_at (inr m) = inr m
+    certify_complete a (inr (p, im, fit, hp, hi, is, s)) = spoken_at (spoken (fit_line fit) (fit_answer fit) a s)
       where
-        go : Is a (fit_answer fit) → IsCertified files named_program named_image a ⊎ (a ≡ Memory)
-        go (inl e) = inl (inr (p, im, fit, subst (λ (d : Option Files). IsProgramOf d named_program p) told hp, subst (λ (d : Option Files). HasImage d named_image im) told hi, is, e))
-        go (inr m) = inr m
+        spoken_at : Is a (fit_answer fit) → IsCertified files named_program named_image a ⊎ (a ≡ Memory)
+        spoken_at (inl e) = inl (inr (p, im, fit, subst (λ (d : Option Files). IsProgramOf d named_program p) told hp, subst (λ (d : Option Files). HasImage d named_image im) told hi, is, e))
+        spoken_at (inr m) = inr m
 
   -- ---- `trial`
 

@@ -46,11 +46,11 @@ module _ (start : State) (image : Distilled) (slaves : ℕ) (models : ℕ → Mo
   goes_past s going = s.went_on going
 
   pub stands_so : StopsAt (world start image slaves) models budget k → stands there ≡ stands (state_after budget start)
-  stands_so s = go (is_over there) refl
+  stands_so s = stands_if_over (is_over there) refl
     where
-      go : (b : Bool) → is_over there ≡ b → stands there ≡ stands (state_after budget start)
-      go true over = ap stands (all_steps s over)
-      go false going = goes_on there.arch.pc there.env.over going ∙ sym (goes_on (state_after budget start).arch.pc (state_after budget start).env.over (goes_past s going))
+      stands_if_over : (b : Bool) → is_over there ≡ b → stands there ≡ stands (state_after budget start)
+      stands_if_over true over = ap stands (all_steps s over)
+      stands_if_over false going = goes_on there.arch.pc there.env.over going ∙ sym (goes_on (state_after budget start).arch.pc (state_after budget start).env.over (goes_past s going))
 
   module _ (name : List ℕ) (store : Reads) (left : Option Files) (out : Puts) (stop : IsStop (world start image slaves) models budget k) where
     -- exactly its output

@@ -33,11 +33,11 @@ bytes_many zero a m = refl
 bytes_many (suc n) a m = ap suc (bytes_many n (a + 1) m)
 
 printed_few : (prints : ℕ → Bool) (i : Inst) (pc : ℕ) (v : Cell → ℕ) → length (task_output prints i pc v) ≤ 256
-printed_few prints i pc v = go (is_task_call prints i pc v) refl
+printed_few prints i pc v = few_if_call (is_task_call prints i pc v) refl
   where
-    go : (b : Bool) → is_task_call prints i pc v ≡ b → length (cond b (bytes_from (v (Reg 12)) (v (Reg 11)) (bytes_of v)) []) ≤ 256
-    go false e = omega arith
-    go true e =
+    few_if_call : (b : Bool) → is_task_call prints i pc v ≡ b → length (cond b (bytes_from (v (Reg 12)) (v (Reg 11)) (bytes_of v)) []) ≤ 256
+    few_if_call false e = omega arith
+    few_if_call true e =
         let short = (and_parts (asks prints i pc) (is_short_write v) e).1 in
         let few = leb-true (v (Reg 12)) 256 (and_parts _ (nat_le (v (Reg 12)) 256) short).1 in
         let many = bytes_many (v (Reg 12)) (v (Reg 11)) (bytes_of v) in

@@ -124,11 +124,11 @@ effect_four : (i : Inst) (pc a b n : ℕ) → pc % 4 ≡ 0 → IfSome (next_of (
 effect_four i pc a b n four = grind arith
 
 pub step_four : (prints : ℕ → Bool) (i : Inst) (pc : ℕ) (v : Cell → ℕ) → pc % 4 ≡ 0 → IfSome (next_of (task_effect prints i pc v).flow) (λ to. to % 4 ≡ 0)
-step_four prints i pc v four = go (is_task_call prints i pc v)
+step_four prints i pc v four = four_if_call (is_task_call prints i pc v)
   where
-    go : (b : Bool) → IfSome (next_of (cond b (next pc ((Reg 10, v (Reg 12)) ∷ [])) (effect_at i pc v)).flow) (λ to. to % 4 ≡ 0)
-    go true = omega (arith, four)
-    go false = effect_four i pc _ _ _ four
+    four_if_call : (b : Bool) → IfSome (next_of (cond b (next pc ((Reg 10, v (Reg 12)) ∷ [])) (effect_at i pc v)).flow) (λ to. to % 4 ≡ 0)
+    four_if_call true = omega (arith, four)
+    four_if_call false = effect_four i pc _ _ _ four
 
 pub step_aligned : (pc : ℕ) (s t : Seen) (f : Flow) (r : Option ℕ) → pc % 4 ≡ 0 → ◌≡◌ {A = Outcome} (record { flow = f; seen = t }) (step_outcome pc s) → r ≡ next_of f → IfSome r (λ to. to % 4 ≡ 0)
 step_aligned pc s t f r four e is =

@@ -55,11 +55,11 @@ laid_is w k h f =
 -- ---- where a task stops it prints nothing
 
 none_printed : (prints : ℕ → Bool) (i : Inst) (pc : ℕ) (v : Cell → ℕ) → not (is_next (task_effect prints i pc v).flow) ≡ true → task_output prints i pc v ≡ []
-none_printed prints i pc v = go (is_task_call prints i pc v)
+none_printed prints i pc v = none_if_call (is_task_call prints i pc v)
   where
-    go : (b : Bool) → not (is_next (cond b (next pc ((Reg 10, v (Reg 12)) ∷ [])) (effect_at i pc v)).flow) ≡ true → cond b (bytes_from (v (Reg 12)) (v (Reg 11)) (bytes_of v)) [] ≡ []
-    go true e = absurd (cc)
-    go false e = refl
+    none_if_call : (b : Bool) → not (is_next (cond b (next pc ((Reg 10, v (Reg 12)) ∷ [])) (effect_at i pc v)).flow) ≡ true → cond b (bytes_from (v (Reg 12)) (v (Reg 11)) (bytes_of v)) [] ≡ []
+    none_if_call true e = absurd (cc)
+    none_if_call false e = refl
 
 matches_now : (m : Machine) → IsLocal m → (o : Option Ending) (c s : Arch) (t : ℕ) → Matches m c (looked o t) s → Matches m c t s
 matches_now m local None c s t h = h
@@ -144,10 +144,10 @@ module _ (start : State) (image : Distilled) (slaves : ℕ) where
   looked_ran false false t = refl
 
   none_left : (l a n : ℕ) → l + a ≡ n → nat_eq l 0 ≡ nat_eq a n
-  none_left l a n sum = go (nat_eq l 0) refl
+  none_left l a n sum = none_if_zero (nat_eq l 0) refl
     where
-      go : (b : Bool) → nat_eq l 0 ≡ b → nat_eq l 0 ≡ nat_eq a n
-      go b e = grind arith
+      none_if_zero : (b : Bool) → nat_eq l 0 ≡ b → nat_eq l 0 ≡ nat_eq a n
+      none_if_zero b e = grind arith
 
   module _ (k : Shown) (h : Shows w k) (going : k.ending ≡ None) where
     abbrev c : Arch
@@ -237,14 +237,14 @@ module _ (start : State) (image : Distilled) (slaves : ℕ) where
 
     pub goes : Goes (advanced image k)
     unfolding advanced
-    goes = go out.flow refl
+    goes = goes_by out.flow refl
       where
-        go : (f : Flow) → out.flow ≡ f → Goes (went image (performed (prints_at image) k) (next_of f))
-        go (Next to) e = went_on to e (subst (λ (f : Flow). IfSome (next_of f) (λ (to : ℕ). to % 4 ≡ 0)) e (step_four (prints_at image) (inst_at k.pc k.seen.value) k.pc k.seen.value h.aligned))
-        go Call e = stood (ap is_next e)
-        go Break e = stood (ap is_next e)
-        go (Illegal word) e = stood (ap is_next e)
-        go (Misfetch to) e = stood (ap is_next e)
+        goes_by : (f : Flow) → out.flow ≡ f → Goes (went image (performed (prints_at image) k) (next_of f))
+        goes_by (Next to) e = went_on to e (subst (λ (f : Flow). IfSome (next_of f) (λ (to : ℕ). to % 4 ≡ 0)) e (step_four (prints_at image) (inst_at k.pc k.seen.value) k.pc k.seen.value h.aligned))
+        goes_by Call e = stood (ap is_next e)
+        goes_by Break e = stood (ap is_next e)
+        goes_by (Illegal word) e = stood (ap is_next e)
+        goes_by (Misfetch to) e = stood (ap is_next e)
 
 -- a task of an image stays one, and its event is the definition's
 pub advanced_is_task : (image : Distilled) → IsImage image → (k : Shown) → IsTaskOf image k → k.ending ≡ None → IsTaskOf image (advanced image k)

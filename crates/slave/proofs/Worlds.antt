@@ -25,11 +25,11 @@ later_in from x xs (Some k) (j, e, h) = (suc j, omega (arith, e), h)
 
 anchor_in : (from pc : ℕ) (xs : List Anchor) → IsIn from xs (anchor_from from xs pc)
 anchor_in from pc [] = tt
-anchor_in from pc (x ∷ xs) = go (nat_eq x.pc pc) (later_in from x xs (anchor_from (from + 1) xs pc) (anchor_in (from + 1) pc xs))
+anchor_in from pc (x ∷ xs) = is_in_if_there (nat_eq x.pc pc) (later_in from x xs (anchor_from (from + 1) xs pc) (anchor_in (from + 1) pc xs))
   where
-    go : (b : Bool) → IsIn from (x ∷ xs) (anchor_from (from + 1) xs pc) → IsIn from (x ∷ xs) (cond b (Some from) (anchor_from (from + 1) xs pc))
-    go true later = (0, omega arith, refl)
-    go false later = later
+    is_in_if_there : (b : Bool) → IsIn from (x ∷ xs) (anchor_from (from + 1) xs pc) → IsIn from (x ∷ xs) (cond b (Some from) (anchor_from (from + 1) xs pc))
+    is_in_if_there true later = (0, omega arith, refl)
+    is_in_if_there false later = later
 
 entry_in : (xs : List Anchor) (o : Option ℕ) → IsIn 0 xs o → is_some o ≡ is_some (option_map (λ (a : Anchor). a.count) (entry xs o))
 entry_in xs None h = refl

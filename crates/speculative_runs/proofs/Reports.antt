@@ -58,13 +58,13 @@ cut_run w models now budget name store left out a same (k, stop, h) stays =
 -- it completed
 completed : (m : Model) (name : List ℕ) (store : Reads) (left : Option Files) (out : Puts) → Got out m.committed.env.output → Written store.told left name (summary_text m)
     → Stopped m name store left out (stands m.committed)
-completed m name store left out got wrote = by m.committed.env.over refl
+completed m name store left out got wrote = stopped_by m.committed.env.over refl
   where
-    by : (o : Option End) → m.committed.env.over ≡ o → Stopped m name store left out (stands m.committed)
-    by None e =
+    stopped_by : (o : Option End) → m.committed.env.over ≡ o → Stopped m name store left out (stands m.committed)
+    stopped_by None e =
         let is : stands m.committed ≡ Budget = ap (stopped_at m.committed.arch.pc) e in
         subst (Stopped m name store left out) (sym is) (got, wrote, sym is)
-    by (Some end) e =
+    stopped_by (Some end) e =
         let is : stands m.committed ≡ Ran m.committed.arch.pc end = ap (stopped_at m.committed.arch.pc) e in
         subst (Stopped m name store left out) (sym is) (got, wrote, sym is)
 

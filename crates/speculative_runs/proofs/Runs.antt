@@ -24,19 +24,19 @@ same s t e = ([], e ∙ sym (append-nil s.env.output))
 module _ (s : State) where
   read_grows : Grows s (read s)
   unfolding read
-  read_grows = go (eqb (s.arch.regs 10) 0)
+  read_grows = grows_if_read (eqb (s.arch.regs 10) 0)
     where
-      go : (b : Bool) → Grows s (cond b (read_some s) (answers (minus 9) s))
-      go true = same s (read_some s) refl
-      go false = same s (answers (minus 9) s) refl
+      grows_if_read : (b : Bool) → Grows s (cond b (read_some s) (answers (minus 9) s))
+      grows_if_read true = same s (read_some s) refl
+      grows_if_read false = same s (answers (minus 9) s) refl
 
   write_grows : Grows s (write s)
   unfolding write
-  write_grows = go (is_output (s.arch.regs 10))
+  write_grows = grows_if_written (is_output (s.arch.regs 10))
     where
-      go : (b : Bool) → Grows s (cond b (write_some s) (answers (minus 9) s))
-      go true = (bytes_from (write_count s) (s.arch.regs 11) s.arch.mem, refl)
-      go false = same s (answers (minus 9) s) refl
+      grows_if_written : (b : Bool) → Grows s (cond b (write_some s) (answers (minus 9) s))
+      grows_if_written true = (bytes_from (write_count s) (s.arch.regs 11) s.arch.mem, refl)
+      grows_if_written false = same s (answers (minus 9) s) refl
 
   brk_grows : Grows s (brk s)
   unfolding brk

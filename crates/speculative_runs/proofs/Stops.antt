@@ -74,11 +74,11 @@ module _ (models : ℕ → Model) (far : ℕ) where
 
 module _ {start : State} {w : World} {models : ℕ → Model} {far most : ℕ} (course : IsCourse start w models far most) where
   comes_at_last : has_come far (models most) ≡ true
-  comes_at_last = go (has_come far (models most)) refl
+  comes_at_last = came_if (has_come far (models most)) refl
     where
-      go : (b : Bool) → has_come far (models most) ≡ b → b ≡ true
-      go true e = refl
-      go false e = let l = course.comes most e in absurd (omega (arith, l))
+      came_if : (b : Bool) → has_come far (models most) ≡ b → b ≡ true
+      came_if true e = refl
+      came_if false e = let l = course.comes most e in absurd (omega (arith, l))
 
   -- it comes to a stop, and none comes before it has come far enough
   pub stop_comes : (j : ℕ) → ((i : ℕ) → i < j → has_come far (models i) ≡ false) → (k : ℕ) × IsFirstStop models far k × (j ≤ k)

@@ -44,19 +44,19 @@ IsClean c = (c.squashed ≡ 0) × (c.dropped ≡ 0)
 -- a serial step squashes nothing
 step_clean : (w : World) (m : Model) → IsClean m.counts → IsClean (happens w m SerialEvent).1.counts
 unfolding happens
-step_clean w m h = go (is_over m.committed)
+step_clean w m h = clean_if_over (is_over m.committed)
   where
     told : (o : Option End) → IsClean (counted_by SerialEvent (told_end o) m.counts)
     told None = h
     told (Some end) = h
 
-    by : (k : Mode) → IsClean (counted_by SerialEvent (serial_step w m k).0 m.counts)
-    by (Serial debt) = told (w.step m.committed).env.over
-    by Speculating = h
+    clean_by_mode : (k : Mode) → IsClean (counted_by SerialEvent (serial_step w m k).0 m.counts)
+    clean_by_mode (Serial debt) = told (w.step m.committed).env.over
+    clean_by_mode Speculating = h
 
-    go : (b : Bool) → IsClean (counted SerialEvent m.counts (cond b (Idle, m) (going_on w m SerialEvent))).1.counts
-    go true = h
-    go false = by m.mode
+    clean_if_over : (b : Bool) → IsClean (counted SerialEvent m.counts (cond b (Idle, m) (going_on w m SerialEvent))).1.counts
+    clean_if_over true = h
+    clean_if_over false = clean_by_mode m.mode
 
 pub alone_clean : (w : World) (k : ℕ) → IsClean (after w alone k).counts
 unfolding after
