@@ -1,0 +1,4 @@
+pub mod Made
+pub mod Aligned
+pub mod Laws
+pub mod Runs

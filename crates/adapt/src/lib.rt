@@ -1,0 +1,13 @@
+//! Adapts to a run: profiles a program's run beside it, and makes an image of the run so far wherever
+//! one is due.
+//!
+//! Nothing about such an image is trusted. What it says changes no result, only how often a task is
+//! squashed.
+#![tactic(auto)]
+
+mod adapter;
+mod making;
+mod words;
+
+pub use adapter::Adapter;
+pub use words::made_is_image;
