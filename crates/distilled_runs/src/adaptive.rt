@@ -1,12 +1,11 @@
 //! Runs that adapt: an image is made anew of the run so far.
 
-use run_world::outside_world::{SURE, perform};
-use run_world::programs::*;
-use std::alloc::{AllocError, Global};
-use std::test::Fail;
-
 use crate::distilled::text_of;
 use crate::printing::PRINTS_TEN;
+use command_fixtures::outside_world::{SURE, perform};
+use std::alloc::{AllocError, Global};
+use std::test::Fail;
+use test_programs::programs::*;
 
 /// A run that adapts, and what it comes to.
 struct Case {
