@@ -6,8 +6,8 @@
 #![tactic(auto)]
 
 mod adapter;
+mod images;
 mod making;
-mod words;
 
 pub use adapter::Adapter;
-pub use words::made_is_image;
+pub use images::made_is_image;
