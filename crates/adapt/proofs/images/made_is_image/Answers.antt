@@ -7,4 +7,4 @@ use Rattle.adapt.proofs.images.made_is_image.Goals as goal
 pub returns : goal.returns
 returns c =
     let small : c.p.inside.entry < 2 ^ 32 = search rules in
-    are_made c.args.p.now c.p-has_words.ensures c.requires (subst (λ (p : Executable). p.entry < 2 ^ 32) c.p.view_is small)
+    are_made c.args.p.now c.has_words.ensures c.requires (subst (λ (p : Executable). p.entry < 2 ^ 32) c.p.view_is small)
