@@ -76,7 +76,7 @@ module _ (program : Executable) (input : List ℕ) (slaves every : ℕ) (first :
   is_plan = record {
     some = some;
     first = (is_image, short);
-    made = λ position image e. let m = are input position image e in (m.is_image, (let l = m.limit in omega (arith, l)));
+    made = λ position image e. let m = are input position image e in (m.valid, (let l = m.limit in omega (arith, l)));
   }
 
   pub its_course : (far : ℕ) → 0 < far → is_over p.start ≡ false → IsCourse p.start (beside p first) (model_at p) far (bound far slaves)
@@ -89,6 +89,9 @@ module _ (program : Executable) (input : List ℕ) (slaves every : ℕ) (first :
 
 -- ---- an engine and an adapter of one run
 
+pub alike_still : (a b c : Adapting) → AreAlike a b → AreAlike b c → AreAlike a c
+alike_still a b c x y = (x.0 ∙ y.0, x.1 ∙ y.1, x.2 ∙ y.2)
+
 module _ {M : Type 0} {d : Ghosts M} (at : M → ℕ → ℕ) where
   -- the world of an engine is one of the plan
   pub world_alike : (e e0 : Engine M d) (a a0 : Adapting) → AreOfOneRun at e a → AreAlike a a0 → slaves_of e ≡ slaves_of e0 → world_of at e ≡ beside (plan_with at e0 a0) (image_of e)
@@ -98,9 +101,6 @@ module _ {M : Type 0} {d : Ghosts M} (at : M → ℕ → ℕ) where
   pub readied : (e e0 : Engine M d) (a a0 : Adapting) → AreAlike a a0 → slaves_of e ≡ slaves_of e0 → (k : ℕ) (r s : Stage) → r ≡ ready (plan_with at e a) k s → r ≡ ready (plan_with at e0 a0) k s
   readied e e0 a a0 alike slaves k r s is =
       is ∙ ready_alike (plan_with at e a) (plan_with at e0 a0) slaves alike.2 (λ i. made (alike.0 i) (start_of (alike.0 i) (alike.1 i))) k s
-
-  pub alike_still : (a b c : Adapting) → AreAlike a b → AreAlike b c → AreAlike a c
-  alike_still a b c x y = (x.0 ∙ y.0, x.1 ∙ y.1, x.2 ∙ y.2)
 
   -- behind an event
   pub run_on : (e f : Engine M d) (a : Adapting) → AreOfOneRun at e a → engine_start at f ≡ engine_start at e → (model_of at e).position ≤ (model_of at f).position → AreOfOneRun at f a

@@ -111,7 +111,7 @@ module _ {M : Type 0} {d : Ghosts M} (at : M → ℕ → ℕ) (e f : Engine M d)
 -- a machine may take what an adapter makes
 pub images : (program : Executable) (o : Option Distilled) → IfSome o (IsMade program) → IfSome o IsImage
 images program None h = h
-images program (Some image) h = h.is_image
+images program (Some image) h = h.valid
 
 -- behind an exchange they are of one run still
 pub run_behind : {M : Type 0} {d : Ghosts M} (at : M → ℕ → ℕ) (e f : Engine M d) (a b : Adapting) → AreOfOneRun at e a → AreAlike b a → engine_start at f ≡ engine_start at e

@@ -43,8 +43,8 @@ loop-alloc-init g c =
       faults = omega arith;
     }
 
-pub make_ready-requires-near : goal.make_ready-requires-near
-make_ready-requires-near g c =
+pub make_ready-requires-clause-near : goal.make_ready-requires-clause-near
+make_ready-requires-clause-near g c =
     let at = g.M.Memory.at in
     let e0 = c.args.pair.now.engine in
     let a0 = c.args.adapter.now in
@@ -126,7 +126,7 @@ put_new-requires g c =
     let is_ready : stage_of at e1 a1 ≡ ready p k (stage_of at c.loop-alloc.pair.engine c.loop-alloc.adapter) =
     readied at c.loop-alloc.pair.engine e0 c.loop-alloc.adapter a0 i.alike i.slaves k (stage_of at e1 a1) (stage_of at c.loop-alloc.pair.engine c.loop-alloc.adapter) (c.in-Ok.ensures.stage k at_place) in
     let same_model : model_of at e1 ≡ model_at p k = ap (λ (s : Stage). s.model) is_ready ∙ ready_model p k (stage_of at c.loop-alloc.pair.engine c.loop-alloc.adapter) ∙ here in
-    let alike = alike_still at a1 c.loop-alloc.adapter a0 c.in-Ok.ensures.alike i.alike in
+    let alike = alike_still a1 c.loop-alloc.adapter a0 c.in-Ok.ensures.alike i.alike in
     let slaves = c.in-Ok.ensures.slaves ∙ i.slaves in
     let e2 = c.event.new.self.engine in
     let is_event : c.turn-e.result ≡ in_rounds p.slaves k = at_turn c.args.slaves c.loop-alloc.place c.turn-e.result c.turn-e.ensures k i.place ∙ ap (λ n. in_rounds n k) c.requires.slaves in
@@ -155,7 +155,7 @@ returns-in-Err-put_new-clause-err g c =
     let is_ready : stage_of at e1 a1 ≡ ready p k (stage_of at c.loop-alloc.pair.engine c.loop-alloc.adapter) =
     readied at c.loop-alloc.pair.engine e0 c.loop-alloc.adapter a0 i.alike i.slaves k (stage_of at e1 a1) (stage_of at c.loop-alloc.pair.engine c.loop-alloc.adapter) (c.in-Ok.ensures.stage k at_place) in
     let same_model : model_of at e1 ≡ model_at p k = ap (λ (s : Stage). s.model) is_ready ∙ ready_model p k (stage_of at c.loop-alloc.pair.engine c.loop-alloc.adapter) ∙ here in
-    let alike = alike_still at a1 c.loop-alloc.adapter a0 c.in-Ok.ensures.alike i.alike in
+    let alike = alike_still a1 c.loop-alloc.adapter a0 c.in-Ok.ensures.alike i.alike in
     let slaves = c.in-Ok.ensures.slaves ∙ i.slaves in
     let e2 = c.event.new.self.engine in
     let is_event : c.turn-e.result ≡ in_rounds p.slaves k = at_turn c.args.slaves c.loop-alloc.place c.turn-e.result c.turn-e.ensures k i.place ∙ ap (λ n. in_rounds n k) c.requires.slaves in
@@ -218,7 +218,7 @@ loop-alloc-preserved g c =
     let is_ready : stage_of at e1 a1 ≡ ready p k (stage_of at c.loop-alloc.pair.engine c.loop-alloc.adapter) =
     readied at c.loop-alloc.pair.engine e0 c.loop-alloc.adapter a0 i.alike i.slaves k (stage_of at e1 a1) (stage_of at c.loop-alloc.pair.engine c.loop-alloc.adapter) (c.in-Ok.ensures.stage k at_place) in
     let same_model : model_of at e1 ≡ model_at p k = ap (λ (s : Stage). s.model) is_ready ∙ ready_model p k (stage_of at c.loop-alloc.pair.engine c.loop-alloc.adapter) ∙ here in
-    let alike = alike_still at a1 c.loop-alloc.adapter a0 c.in-Ok.ensures.alike i.alike in
+    let alike = alike_still a1 c.loop-alloc.adapter a0 c.in-Ok.ensures.alike i.alike in
     let slaves = c.in-Ok.ensures.slaves ∙ i.slaves in
     let e2 = c.event.new.self.engine in
     let is_event : c.turn-e.result ≡ in_rounds p.slaves k = at_turn c.args.slaves c.loop-alloc.place c.turn-e.result c.turn-e.ensures k i.place ∙ ap (λ n. in_rounds n k) c.requires.slaves in

@@ -7,20 +7,20 @@ use Rattle.adaptive_driver.specs.Adapted.{stage_of}
 use Rattle.adaptive_driver.proofs.Renewed.{renewed_so, asked_alike, asked_within, runs_there, position_is, asked_before, within_most, images, run_behind}
 use Rattle.adaptive_driver.proofs.renewal.renew.Goals as goal
 
-pub next-requires-position : goal.next-requires-position
-next-requires-position g c =
+pub next-requires-clause-position : goal.next-requires-clause-position
+next-requires-clause-position g c =
     within_most g.M.Memory.at c.args.pair.now.engine c.engine.result.now c.args.adapter.now c.engine.ensures c.requires.run c.committed.result.now.position c.committed.ensures.position c.requires.near
 
-pub next-requires-asked : goal.next-requires-asked
-next-requires-asked g c =
+pub next-requires-clause-asked : goal.next-requires-clause-asked
+next-requires-clause-asked g c =
     asked_before g.M.Memory.at c.args.pair.now.engine c.engine.result.now c.args.adapter.now c.engine.ensures c.requires.run c.committed.result.now.position c.committed.ensures.position
 
-pub next-requires-running : goal.next-requires-running
-next-requires-running g c =
+pub next-requires-clause-running : goal.next-requires-clause-running
+next-requires-clause-running g c =
     runs_there g.M.Memory.at c.args.pair.now.engine c.engine.result.now c.args.adapter.now c.engine.ensures c.requires.run _ c.committed.result.now.position c.committed.ensures.state c.committed.ensures.sequential c.requires.running
 
-pub exchange-requires-image : goal.exchange-requires-image
-exchange-requires-image g c = images c.args.adapter.now.program c.in_ok-image.image c.in_ok-image.ensures.made
+pub exchange-requires-clause-image : goal.exchange-requires-clause-image
+exchange-requires-clause-image g c = images c.args.adapter.now.program c.in_ok-image.image c.in_ok-image.ensures.made
 
 pub returns-clause-stage : goal.returns-clause-stage
 returns-clause-stage g c =
