@@ -1,9 +1,9 @@
 -- The course of a machine that adapts: where it stands after each event, and that it comes to a stop.
-use Rattle.std.proofs.Common.{◌≡◌, ℕ, ◌+◌, ◌*◌, ◌-◌, ◌^◌, ◌<◌, ◌≤◌, ◌||◌, zero, suc, Bool, true, false, List, Option, Some, refl, sym, ap, subst, ◌∙◌, arith, true≢false}
+use Rattle.std.proofs.Common.{◌≡◌, ℕ, ◌+◌, ◌*◌, ◌-◌, ◌^◌, ◌<◌, ◌≤◌, ◌||◌, zero, suc, Bool, true, false, List, refl, sym, ap, subst, ◌∙◌, arith, true≢false}
 use Rattle.std.specs.Prelude.{nat_le}
 use Rattle.std.proofs.lemmas.Bool.{leb-false}
-use Rattle.std.proofs.Math.Nat.{mul-le-mul_right, mul-le-mul_left}
-use Rattle.cells.specs.Run.{State, is_over}
+use Rattle.std.proofs.Math.Nat.{mul-le-mul_left}
+use Rattle.cells.specs.Run.{is_over}
 use Rattle.elf_reader.specs.Executable.{Executable}
 use Rattle.speculation.specs.declared.Event.{Event}
 use Rattle.speculation.specs.World.{World}
@@ -22,7 +22,7 @@ use Rattle.adapt.specs.Made.{Adapting, made}
 use Rattle.adapt.specs.Laws.{AreMade}
 use Rattle.speculative_runs.proofs.Along.{happens-events}
 use Rattle.speculative_runs.proofs.Stops.{IsCourse, most_steps_few}
-use Rattle.adaptive_driver.specs.Adapted.{plan_of, plan_with, stage_of, AreOfOneRun, AreAlike}
+use Rattle.adaptive_driver.specs.Adapted.{plan_of, plan_with, AreOfOneRun, AreAlike}
 
 -- each event is counted
 pub counted : (p : Plan) (k : ℕ) → (model_at p k).counts.events ≡ k

@@ -1,5 +1,5 @@
 -- What an adapter answers, and what a stage becomes by it.
-use Rattle.std.proofs.Common.{◌≡◌, ℕ, ◌+◌, ◌%◌, ◌^◌, ◌≤◌, Bool, true, false, cond, ◌&&◌, ◌==◌, List, Option, Some, None, refl, sym, ap, subst, ◌∙◌, arith, true≢false}
+use Rattle.std.proofs.Common.{◌≡◌, ℕ, ◌+◌, ◌%◌, ◌^◌, ◌≤◌, Bool, true, false, cond, ◌&&◌, ◌==◌, Option, Some, None, refl, sym, ap, ◌∙◌, arith, true≢false}
 use Rattle.std.specs.Prelude.{nat_le, not, unwrap_or, IfSome}
 use Rattle.cells.specs.Run.{State, is_over, iterate}
 use Rattle.rv_semantics.specs.Calls.{step}
@@ -10,7 +10,6 @@ use Rattle.memory.specs.declared.Memory.{Ghosts}
 use Rattle.fitting.specs.Fails.{state_at}
 use Rattle.speculation.specs.declared.Mode.{Mode}
 use Rattle.speculation.specs.declared.Mode.TheVariants.{Serial, Speculating}
-use Rattle.speculation.specs.Engine.{Model}
 use Rattle.speculation_laws.specs.Told.{is_speculating}
 use Rattle.dist_image.specs.Image.{Distilled, IsImage}
 use Rattle.engine.specs.Shown.{IsSerial}

@@ -3,14 +3,14 @@ use Rattle.std.proofs.Common.{◌≡◌, ℕ, ◌+◌, ◌-◌, ◌%◌, ◌<◌
 use Rattle.outside.specs.Answers.{Gains}
 use Rattle.speculation.specs.Engine.{Model, fresh}
 use Rattle.speculation_schedules.specs.Schedule.{in_rounds, has_come}
-use Rattle.engine.specs.Whole.{start_of, image_of, slaves_of, model_of, world_of}
+use Rattle.engine.specs.Whole.{slaves_of, model_of, world_of}
 use Rattle.adaptive_runs.specs.Adaptive.{Stage, ready, adapted, model_at}
 use Rattle.adaptive_runs.proofs.Worlds.{ready_model}
 use Rattle.report.proofs.Gained.{gains-none}
 use Rattle.speculative_runs.specs.Driven.{Stops}
 use Rattle.speculative_runs.proofs.Turns.{at_turn, start}
 use Rattle.speculative_runs.proofs.Advances.{stopped_here, no_memory, not_yet_too, room_to_put, put_too, stopped_there}
-use Rattle.adaptive_driver.specs.Adapted.{plan_with, stage_of, AreOfOneRun, AreAlike}
+use Rattle.adaptive_driver.specs.Adapted.{plan_with, stage_of}
 use Rattle.adaptive_driver.proofs.Course.{counted, begins, bound, next_stage, few_events, world_alike, readied, alike_still, run_on, course_of, stands_before}
 use Rattle.adaptive_driver.proofs.driver.advance.Goals as goal
 

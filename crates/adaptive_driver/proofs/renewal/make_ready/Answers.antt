@@ -1,10 +1,10 @@
 -- Whether an image may take the place of the pair's before an event, and what the stage becomes then.
-use Rattle.std.proofs.Common.{◌≡◌, ℕ, ◌+◌, ◌%◌, ◌==◌, ◌∙◌, sym, refl}
+use Rattle.std.proofs.Common.{◌==◌, ◌∙◌, sym}
 use Rattle.std.specs.Prelude.{not}
 use Rattle.std.proofs.lemmas.Result.{on_ok_weaker}
 use Rattle.cells.specs.Run.{is_over}
 use Rattle.speculation_laws.specs.Told.{is_speculating}
-use Rattle.engine.specs.Whole.{model_of, slaves_of}
+use Rattle.engine.specs.Whole.{model_of}
 use Rattle.adaptive_driver.specs.Adapted.{plan_with, stage_of}
 use Rattle.adaptive_driver.proofs.Renewed.{serial_so, both, runs, ready_renewed, ready_still}
 use Rattle.adaptive_driver.proofs.renewal.make_ready.Goals as goal

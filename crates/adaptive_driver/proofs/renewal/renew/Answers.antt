@@ -1,7 +1,7 @@
 -- The adapter's answer at the committed position.
-use Rattle.std.proofs.Common.{◌≡◌, ◌∙◌, ◌≤◌, ap, sym, subst, refl, arith}
+use Rattle.std.proofs.Common.{◌∙◌, ap, refl}
 use Rattle.speculation.specs.Engine.{Model}
-use Rattle.engine.specs.Whole.{model_of, image_of, slaves_of, start_of}
+use Rattle.engine.specs.Whole.{model_of, image_of, slaves_of}
 use Rattle.adapt.specs.Made.{answer_at, after}
 use Rattle.adaptive_driver.specs.Adapted.{stage_of}
 use Rattle.adaptive_driver.proofs.Renewed.{renewed_so, asked_alike, asked_within, runs_there, position_is, asked_before, within_most, images, run_behind}

@@ -10,14 +10,14 @@ use Rattle.adaptive_driver.specs.Adapted.{plan_with}
 use Rattle.mssp_tool.proofs.Reports.{adapter_runs, of_one_run}
 use Rattle.mssp_tool.proofs.run.run_adapting.Goals as goal
 
-pub speculate_adapting-requires-run : goal.speculate_adapting-requires-run
-speculate_adapting-requires-run g c =
+pub speculate_adapting-requires-clause-run : goal.speculate_adapting-requires-clause-run
+speculate_adapting-requires-clause-run g c =
     let at = g.M.Memory.at in
     of_one_run at c.new-pair.result.engine c.in-Ok.adapter c.args.ready.program (state_of at c.args.ready.machine) c.args.every c.in-Ok.ensures
     (ap (start_of at) c.new-pair.ensures.engine ∙ c.in-Ok-new.ensures.start) c.requires.begins
 
-pub speculate_adapting-requires-due : goal.speculate_adapting-requires-due
-speculate_adapting-requires-due g c = ap (λ (a : Adapting). a.due) c.in-Ok.ensures ∙ sym (ap (λ (a : Adapting). a.every) c.in-Ok.ensures)
+pub speculate_adapting-requires-clause-due : goal.speculate_adapting-requires-clause-due
+speculate_adapting-requires-clause-due g c = ap (λ (a : Adapting). a.due) c.in-Ok.ensures ∙ sym (ap (λ (a : Adapting). a.every) c.in-Ok.ensures)
 
 pub returns-in-Ok-new : goal.returns-in-Ok-new
 returns-in-Ok-new g c =
@@ -31,8 +31,8 @@ returns-in-Ok-new g c =
     adapter_runs (shown_run c.args.run.now) c.args.name.now c.args.ready.program (start_of at e) (state_of at c.args.ready.machine) (image_of e) c.args.ready.image (slaves_of e) c.args.every
     store left out c.speculate_adapting.result (ap (start_of at) same ∙ c.in-Ok-new.ensures.start) (ap image_of same ∙ c.in-Ok-new.ensures.image) (ap slaves_of same ∙ c.in-Ok-new.ensures.slaves) c.requires.adapts runs
 
-pub adapter_of-requires-some : goal.adapter_of-requires-some
-adapter_of-requires-some g c = subst (λ (o : Option ℕ). 1 ≤ unwrap_or o 1) c.requires.adapts c.args.run.now.rarely
+pub adapter_of-requires-clause-some : goal.adapter_of-requires-clause-some
+adapter_of-requires-clause-some g c = subst (λ (o : Option ℕ). 1 ≤ unwrap_or o 1) c.requires.adapts c.args.run.now.rarely
 
-pub adapter_of-requires-most : goal.adapter_of-requires-most
-adapter_of-requires-most g c = subst (λ (o : Option ℕ). unwrap_or o 1 ≤ 10 ^ 9) c.requires.adapts c.args.run.now.often
+pub adapter_of-requires-clause-most : goal.adapter_of-requires-clause-most
+adapter_of-requires-clause-most g c = subst (λ (o : Option ℕ). unwrap_or o 1 ≤ 10 ^ 9) c.requires.adapts c.args.run.now.often
