@@ -10,6 +10,8 @@ registers are live and needed, and lists what it assumes: it fits the program.
 
 `setting` adds, in each of 100 turns, the entry of a table that a setting names.
 
+`phases` adds up numbers in the first half of its run, and takes others off in the second.
+
 The files are committed; this script says what is in them.
 """
 
@@ -70,6 +72,20 @@ SETTING = [
     7,
     11,
     13,
+]
+
+PHASES = [
+    0x000022B7,  # 00010000        lui  x5, 2            8,192 turns
+    0x00001337,  # 00010004        lui  x6, 1            half of them
+    0xFFF28293,  # 00010008  head: addi x5, x5, -1
+    0x0062CC63,  # 0001000c        blt  x5, x6, late
+    0x005383B3,  # 00010010        add  x7, x7, x5
+    0xFE029AE3,  # 00010014  next: bne  x5, x0, head
+    0x00038513,  # 00010018        addi x10, x7, 0       the exit code
+    0x05D00893,  # 0001001c        addi x17, x0, 93
+    0x00000073,  # 00010020        ecall
+    0x405383B3,  # 00010024  late: sub  x7, x7, x5
+    0xFEDFF06F,  # 00010028        jal  x0, next
 ]
 
 
@@ -140,6 +156,7 @@ def main():
     FOLDER.joinpath("sure.img").write_bytes(sure())
     FOLDER.joinpath("countdown.elf").write_bytes(elf(COUNTDOWN))
     FOLDER.joinpath("setting.elf").write_bytes(elf(SETTING))
+    FOLDER.joinpath("phases.elf").write_bytes(elf(PHASES))
 
 
 if __name__ == "__main__":

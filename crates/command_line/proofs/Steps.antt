@@ -5,7 +5,7 @@ use Rattle.std.specs.Cmp.Lexicographic.{same_text}
 use Rattle.std.proofs.lemmas.Bool.Decides.{nat_tests}
 use Rattle.command_line.specs.declared.options.Kind.{Kind}
 use Rattle.command_line.specs.Number.{number_of, within, number_within}
-use Rattle.command_line.specs.Options.{same, takes, value_of, number_or, may_precede, are_options, IsNumberIfGiven}
+use Rattle.command_line.specs.Options.{same, takes, value_of, number_or, number_if_given, may_precede, are_options, IsNumberIfGiven}
 use Rattle.command_line.specs.Command.{run_options, replay_options, check_options, profile_options, distill_options}
 
 pub list_any-map : {A B : Type 0} (test : B → Bool) (f : A → B) (xs : List A) → list_any test (map f xs) ≡ list_any (λ x. test (f x)) xs
@@ -83,6 +83,30 @@ number-between table option least most default low high numbers words h = if_giv
         → (least ≤ unwrap_or (option_and_then number_of o) default) × (unwrap_or (option_and_then number_of o) default ≤ most)
     if_given None given = (low, high)
     if_given (Some v) given = between (number_of v) (numbers v given)
+
+-- so is a number that is given without a default
+pub number-if-between : (table : List (List ℕ × Kind)) (option : List ℕ) (least most : ℕ)
+    → ((v : List ℕ) → takes table option v ≡ true → is_some (number_within least most v) ≡ true)
+    → (words : List (List ℕ)) → are_options table words ≡ true → IfSome (number_if_given option words) (λ n. (least ≤ n) × (n ≤ most))
+unfolding number_if_given
+number-if-between table option least most numbers words h = go (value_of option words) (takes-given table option words h)
+  where
+    between : (n : Option ℕ) → is_some (option_and_then (within least most) n) ≡ true → IfSome n (λ m. (least ≤ m) × (m ≤ most))
+    between None e = tt
+    between (Some n) e = (grind (arith, nat_tests), grind (arith, nat_tests))
+
+    go : (o : Option (List ℕ)) → IfSome o (λ v. takes table option v ≡ true) → IfSome (option_and_then number_of o) (λ n. (least ≤ n) × (n ≤ most))
+    go None given = tt
+    go (Some v) given = between (number_of v) (numbers v given)
+
+-- `--adapt` is a number from 1 to 10^9
+pub adapt-between : (words : List (List ℕ)) → are_options run_options words ≡ true → IfSome (number_if_given (codes "--adapt") words) (λ n. (1 ≤ n) × (n ≤ 10 ^ 9))
+unfolding takes
+adapt-between words h = number-if-between run_options (codes "--adapt") 1 (10 ^ 9) (λ v e. grind (arith, e)) words h
+
+pub adapt-given : (words : List (List ℕ)) → are_options run_options words ≡ true → IsNumberIfGiven (codes "--adapt") words
+unfolding takes
+adapt-given words h = number-given run_options (codes "--adapt") 1 (10 ^ 9) (lit< tt) (λ v e. grind (arith, e)) words h
 
 -- from 1 to 10^12
 pub budget-between : (words : List (List ℕ)) → are_options run_options words ≡ true → (1 ≤ number_or (10 ^ 9) (codes "--budget") words) × (number_or (10 ^ 9) (codes "--budget") words ≤ 10 ^ 12)

@@ -1,5 +1,5 @@
 -- What the words of the command line ask for. A word is its bytes.
-use Rattle.std.specs.Prelude.{ℕ, ◌^◌, Bool, ◌&&◌, ◌==◌, if◌then◌else◌, List, [], ◌∷◌, ◌++◌, codes, option_map, option_and_then, option_copied, is_some, is_none, Option, Some, None}
+use Rattle.std.specs.Prelude.{ℕ, ◌^◌, Bool, ◌&&◌, ◌||◌, ◌==◌, if◌then◌else◌, List, [], ◌∷◌, ◌++◌, codes, option_map, option_and_then, option_copied, is_some, is_none, Option, Some, None}
 use Rattle.command_line.specs.declared.commands.Command.{Command as ReadCommand}
 use Rattle.command_line.specs.declared.commands.Command.TheVariants.{Run as ReadRun, Show as ReadShow, Replay as ReadReplay, Profile as ReadProfile, Values as ReadValues, Distill as ReadDistill, Check as ReadCheck, Certify as ReadCertify, Trial as ReadTrial}
 use Rattle.command_line.specs.declared.commands.Run.{Run as ReadRunCommand}
@@ -10,9 +10,10 @@ use Rattle.command_line.specs.declared.commands.Trial.{Trial as ReadTrialCommand
 use Rattle.command_line.specs.declared.options.Kind.{Kind}
 use Rattle.command_line.specs.declared.options.Kind.TheVariants.{File, Number}
 use Rattle.command_line.specs.Number.{number_within}
-use Rattle.command_line.specs.Options.{same, is_name, value_of, number_or, are_options}
+use Rattle.command_line.specs.Options.{same, is_name, value_of, number_or, number_if_given, are_options}
 
--- `run PROG`: the name of the program, the names of the image, of the input and of the report, if there are such, the number of slaves and the number of steps
+-- `run PROG`: the name of the program, the names of the image, of the input and of the report, if there are such, the number of slaves and the number of steps,
+-- and after how many steps the image is made anew, if it is
 pub record RunCommand : Type 0 where
   pub program : List ℕ
   pub image : Option (List ℕ)
@@ -20,6 +21,7 @@ pub record RunCommand : Type 0 where
   pub report : Option (List ℕ)
   pub slaves : ℕ
   pub budget : ℕ
+  pub adapt : Option ℕ
 
 -- `replay PROG IMAGE EVENTS`: the names of the program, of the image, of the list of events and of the input, if there is one, and the number of slaves
 pub record ReplayCommand : Type 0 where
@@ -69,12 +71,13 @@ pub data Command : Type 0 where
 -- the options of `run`
 abbrev pub run_options : List (List ℕ × Kind)
 run_options =
-    (codes "--image", File) ∷ (codes "--input", File) ∷ (codes "--report", File) ∷ (codes "--slaves", Number 1 64) ∷ (codes "--budget", Number 1 (10 ^ 12)) ∷ []
+    (codes "--image", File) ∷ (codes "--input", File) ∷ (codes "--report", File) ∷ (codes "--slaves", Number 1 64) ∷ (codes "--budget", Number 1 (10 ^ 12))
+    ∷ (codes "--adapt", Number 1 (10 ^ 9)) ∷ []
 
--- a run with options; an image asks for a report
+-- a run with options; an image asks for a report, and so do images that are made anew
 abbrev pub run_with : List ℕ → List (List ℕ) → Option RunCommand
 run_with program options =
-    if is_some (value_of (codes "--image") options) && is_none (value_of (codes "--report") options)
+    if (is_some (value_of (codes "--image") options) || is_some (value_of (codes "--adapt") options)) && is_none (value_of (codes "--report") options)
     then None
     else Some (record {
       program = program;
@@ -83,6 +86,7 @@ run_with program options =
       report = value_of (codes "--report") options;
       slaves = number_or 4 (codes "--slaves") options;
       budget = number_or (10 ^ 9) (codes "--budget") options;
+      adapt = number_if_given (codes "--adapt") options;
     })
 
 -- what the words after `run` ask for: a name, and then options
@@ -217,6 +221,7 @@ shown_run run = record {
   report = option_copied run.report;
   slaves = run.slaves;
   budget = run.budget;
+  adapt = run.adapt;
 }
 
 -- what a `replay` that was read means

@@ -38,6 +38,10 @@ value_of option (other ∷ value ∷ words) = if same other option then Some val
 unfoldable pub number_or : ℕ → List ℕ → List (List ℕ) → ℕ
 number_or default option words = unwrap_or (option_and_then number_of (value_of option words)) default
 
+-- the number that an option is given, if it is given one
+unfoldable pub number_if_given : List ℕ → List (List ℕ) → Option ℕ
+number_if_given option words = option_and_then number_of (value_of option words)
+
 -- an option is given a number of 64 bits, if it is given
 abbrev pub IsNumberIfGiven : List ℕ → List (List ℕ) → Type 0
 IsNumberIfGiven option words = IfSome (value_of option words) (λ value. IsSome (number_within 0 (2 ^ 64 - 1) value))

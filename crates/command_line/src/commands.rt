@@ -1,5 +1,5 @@
 //! The commands.
-ghost use Rattle.std.specs.Prelude.{◌≤◌, ◌^◌};
+ghost use Rattle.std.specs.Prelude.{◌≤◌, ◌^◌, unwrap_or};
 
 /// `run PROG`: runs a program.
 #[derive(Clone, Copy, Debug, PartialEq, Eq)]
@@ -17,10 +17,15 @@ pub struct Run<'a> {
     pub slaves: u8,
     /// How many steps it may take, from 1 to 10^12.
     pub budget: u64,
+    /// After how many steps the image is made anew of the run so far, from 1 to 10^9; without it the
+    /// image stays. Where there is one, there is a report too.
+    pub adapt: Option<u64>,
     pub ghost some: { 1 ≤ slaves },
     pub ghost few: { slaves ≤ 64 },
     pub ghost least: { 1 ≤ budget },
     pub ghost most: { budget ≤ 10 ^ 12 },
+    pub ghost rarely: { 1 ≤ unwrap_or adapt 1 },
+    pub ghost often: { unwrap_or adapt 1 ≤ 10 ^ 9 },
 }
 
 /// `replay PROG IMAGE EVENTS`: gives a list of events to a speculative machine.

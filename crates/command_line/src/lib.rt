@@ -61,12 +61,12 @@ fn read_certify(words: &[String]) -> Option<Command<'_>>
 /// The first word is the command. Next come its names, any words that aren't empty, also ones that
 /// begin with `--`. The rest are pairs of an option of that command and its value, each option at
 /// most once, in any order. A file is any word that isn't empty. A number has ASCII digits alone,
-/// without a sign or a leading zero. In `run`, `--image` asks for `--report`. Other words are no
-/// command, and give `None`.
+/// without a sign or a leading zero. In `run`, `--image` and `--adapt` ask for `--report`. Other
+/// words are no command, and give `None`.
 ///
 /// | Command | Options, with range and default |
 /// |---|---|
-/// | `run PROG` | `--image F`, `--input F`, `--report F`, `--slaves` 1 to 64 (4), `--budget` 1 to 10^12 (10^9) |
+/// | `run PROG` | `--image F`, `--input F`, `--report F`, `--slaves` 1 to 64 (4), `--budget` 1 to 10^12 (10^9), `--adapt` 1 to 10^9 |
 /// | `show IMAGE` | |
 /// | `replay PROG IMAGE EVENTS` | `--input F`, `--slaves` 1 to 64 (4) |
 /// | `profile PROG OUT` | `--input F`, `--budget` 1 to 10^12 (10^9), `--calls` 0 to 1 (0) |

@@ -1,6 +1,6 @@
 //! Options of a command: pairs of words, an option and its value.
 ghost use Rattle.std.specs.Prelude.{◌≡◌, map, string_bytes, option_copied};
-ghost use Rattle.command_line.specs.Options.{shown_rule, is_value, is_line_for, takes, value_of, number_or, IsNumberIfGiven, may_precede, are_options};
+ghost use Rattle.command_line.specs.Options.{shown_rule, is_value, is_line_for, takes, value_of, number_or, number_if_given, IsNumberIfGiven, may_precede, are_options};
 
 use crate::number::read_number;
 
@@ -70,6 +70,15 @@ pub(crate) fn number_or(words: &[String], option: &str, default: u64) -> u64
     value_of(words, option)
         .and_then(read_number)
         .unwrap_or(default)
+}
+
+/// The number that the words give the option, if they give it one.
+#[tactic(auto, unfolding(crate::specs::Options::number_if_given))]
+pub(crate) fn number_if_given(words: &[String], option: &str) -> Option<u64>
+    requires { IsNumberIfGiven option.now (map string_bytes words.now) }
+    ensures { result ≡ number_if_given option.now (map string_bytes words.now) }
+{
+    value_of(words, option).and_then(read_number)
 }
 
 /// Whether an option and its value may stand before these words: the rules take them, and the words

@@ -1,7 +1,9 @@
 //! Whole runs, from the words of a command to its bytes and its status: profiles, images made of them and their checks, images that
-//! mean no good, and faults of store and output, call by call.
+//! mean no good, runs that adapt, and faults of store and output, call by call.
 #![tactic(auto)]
 
+#[cfg(test)]
+mod adaptive;
 #[cfg(test)]
 mod certified;
 #[cfg(test)]

@@ -1,9 +1,11 @@
 //! Profiles, masks and images of small programs: tests of `access_trace`, `profiler`, `load_values`,
-//! `liveness` and `distiller`.
+//! `liveness`, `distiller` and `adapt`.
 #![tactic(auto)]
 
 #[cfg(test)]
 mod access_trace_cases;
+#[cfg(test)]
+mod adapt_cases;
 #[cfg(test)]
 mod distiller_cases;
 #[cfg(test)]

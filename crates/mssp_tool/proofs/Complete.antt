@@ -252,7 +252,7 @@ module _ (store : Reads) (out : Puts) (files : Files) (told : store.told ≡ Som
 
     run_complete : (left : Option Files) (a : Answer) → RunCause store left r out a → Is a (run_answer files r)
     run_complete left a (inl h) = unready a h.0
-    run_complete left a (inr (p, i, im, fs, d)) = run_from p i im fs (models_from r (start_from p i) im) left r.report a d
+    run_complete left a (inr (p, i, im, fs, d)) = run_from p i im fs (models_from r.adapt r (program_of p) (start_from p i) im) left r.report a d
 
   -- ---- `show`
 

@@ -11,6 +11,7 @@ use Rattle.dist_image.specs.Image.{Distilled}
 use Rattle.image_semantics.specs.World.{world}
 use Rattle.speculation_schedules.specs.Laws.{StopsAt}
 use Rattle.command_line.specs.Command.{RunCommand}
+use Rattle.elf_reader.specs.Accepted.{program_of}
 use Rattle.answers.specs.declared.answer.Answer.{Answer}
 use Rattle.answers.specs.declared.answer.Answer.TheVariants.{Usage, Absent, StoreFault, SinkFault, Memory, TooLong, Refused, Done, Ran, Budget, Broken}
 use Rattle.speculative_runs.specs.Told.{Reads, Puts, Got}
@@ -125,4 +126,4 @@ module _ (store : Reads) (left : Option Files) (r : RunCommand) (out : Puts) whe
   runs_as_alone (TooLong s) (inl h) done = absurd done
   runs_as_alone (Refused e) (inl h) done = absurd done
   runs_as_alone Done (inl h) done = absurd done
-  runs_as_alone a (inr (p, i, im, fs, h)) done = runs p i im fs r.report (models_from r (start_from p i) im) a h done
+  runs_as_alone a (inr (p, i, im, fs, h)) done = runs p i im fs r.report (models_from r.adapt r (program_of p) (start_from p i) im) a h done

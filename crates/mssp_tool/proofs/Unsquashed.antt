@@ -1,5 +1,5 @@
 -- What a replay puts and a report tells, by the laws against squashes.
-use Rattle.std.proofs.Common.{◌≡◌, ℕ, ◌<◌, zero, suc, Bool, true, false, cond, List, [], ◌∷◌, take, Option, Some, None, refl, subst, inl, inr}
+use Rattle.std.proofs.Common.{◌≡◌, ℕ, ◌<◌, zero, suc, Bool, true, false, cond, List, [], ◌∷◌, take, Option, Some, None, refl, sym, subst, inl, inr}
 use Rattle.std.specs.Prelude.{slice_get, option_map}
 use Rattle.outside.specs.Files.{Files}
 use Rattle.cells.specs.declared.End.{End}
@@ -26,6 +26,7 @@ use Rattle.fitting_laws.proofs.Sets.{is_setting}
 use Rattle.nosquash.proofs.Clean.{clean}
 use Rattle.speculation_schedules.specs.Schedule.{after}
 use Rattle.event_list.specs.Reading.{written_out}
+use Rattle.elf_reader.specs.Accepted.{program_of}
 use Rattle.answers.specs.declared.answer.Answer.{Answer}
 use Rattle.answers.specs.declared.answer.Answer.TheVariants.{Usage, Absent, StoreFault, SinkFault, Memory, TooLong, Refused, Done, Ran, Budget, Broken}
 use Rattle.speculative_runs.specs.Told.{Reads, Puts, Written}
@@ -101,19 +102,19 @@ module _ (store : Reads) (left : Option Files) (r : RunCommand) (name : List ℕ
   run_clean (Some file) image start k (bytes, h) (fits, (n, meets, ends)) = clean start image r.slaves n h.is_image some fits meets ends (events_of Rounds r.slaves) k
 
   module _ (p i : List ℕ) (image : Distilled) (files : AreRunFiles store.told r p image i) where
-    told : (k : ℕ) → Written store.told left name (summary_text (models_from r (start_from p i) image k)) → ReportIsUnsquashed store.told left r name
+    told : (k : ℕ) → Written store.told left name (summary_text (models_from r.adapt r (program_of p) (start_from p i) image k)) → ReportIsUnsquashed store.told left r name
     told k written =
         record {
           p = p;
           i = i;
           image = image;
           files = files;
-          last = models_from r (start_from p i) image k;
+          last = models_from r.adapt r (program_of p) (start_from p i) image k;
           written = written;
-          unsquashed = run_clean r.image image (start_from p i) k files.has_image;
+          unsquashed = λ steady met. subst (λ (o : Option ℕ). IsClean (models_from o r (program_of p) (start_from p i) image k).counts) (sym steady) (run_clean r.image image (start_from p i) k files.has_image met);
         }
 
-    reports : (a : Answer) → Completes a → RunFrom (Some name) r (world_from p i image r.slaves) (models_from r (start_from p i) image) store left out a → ReportIsUnsquashed store.told left r name
+    reports : (a : Answer) → Completes a → RunFrom (Some name) r (world_from p i image r.slaves) (models_from r.adapt r (program_of p) (start_from p i) image) store left out a → ReportIsUnsquashed store.told left r name
     reports (Ran pc end) done (k, stop, (got, written, is)) = told k written
     reports Budget done (k, stop, (got, written, is)) = told k written
     reports Usage done h = absurd done
@@ -139,4 +140,4 @@ module _ (store : Reads) (left : Option Files) (r : RunCommand) (name : List ℕ
   report_is_unsquashed named (Refused e) done (inl h) = absurd done
   report_is_unsquashed named Done done (inl h) = absurd done
   report_is_unsquashed named a done (inr (p, i, image, files, h)) =
-      reports p i image files a done (subst (λ (o : Option (List ℕ)). RunFrom o r (world_from p i image r.slaves) (models_from r (start_from p i) image) store left out a) named h)
+      reports p i image files a done (subst (λ (o : Option (List ℕ)). RunFrom o r (world_from p i image r.slaves) (models_from r.adapt r (program_of p) (start_from p i) image) store left out a) named h)

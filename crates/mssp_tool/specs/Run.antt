@@ -16,6 +16,8 @@ use Rattle.seq_machine.specs.Parts.{start_of}
 use Rattle.answers.specs.declared.answer.Answer.{Answer}
 use Rattle.answers.specs.declared.answer.Answer.TheVariants.{Memory, Ran, Budget}
 use Rattle.speculative_runs.specs.Told.{Reads, Puts, Got, GotNothing}
+use Rattle.adaptive_runs.specs.Adaptive.{model_at}
+use Rattle.adaptive_driver.specs.Adapted.{plan_of}
 use Rattle.mssp_tool.specs.Files.{IsProgramOf, NoProgram, of_program, IsNamedImage, NoNamedImage, of_named_image, IsInput, NoInput, of_input}
 use Rattle.speculative_runs.specs.Driven.{Driven, state_after, stands}
 use Rattle.speculative_runs.specs.Speculated.{schedule_of, events_of, Speculated}
@@ -42,23 +44,25 @@ start_from p i = start_of (program_of p) i
 abbrev pub world_from : List ℕ → List ℕ → Distilled → ℕ → World
 world_from p i image slaves = world (start_from p i) image slaves
 
--- the models of the machine of such a run, after each number of events: rounds where an image is named, and else serial steps alone
-abbrev pub models_from : RunCommand → State → Distilled → ℕ → Model
-models_from r start image = after (world start image r.slaves) (events_of (schedule_of r.image) r.slaves)
+-- the models of the machine of such a run, after each number of events: rounds where an image is named, and else serial steps alone. Where it adapts these
+-- are rounds, beside an image that is made anew of the run so far
+abbrev pub models_from : Option ℕ → RunCommand → Executable → State → Distilled → ℕ → Model
+models_from None r program start image = after (world start image r.slaves) (events_of (schedule_of r.image) r.slaves)
+models_from (Some every) r program start image = model_at (plan_of program start.env.input r.slaves every image)
 
 -- a state is the start of the program's run, with the input that it holds
 abbrev pub Begins : Executable → State → Type 0
 Begins program s = s ≡ start_of program s.env.input
 
--- the files are read and accepted, and this is the start of their run, and their image
-abbrev pub IsReady : Option Files → RunCommand → State → Distilled → Type 0
-IsReady told r s image = (p : List ℕ) × (i : List ℕ) × AreRunFiles told r p image i × (s ≡ start_from p i)
+-- the files are read and accepted, and these are their program, the start of their run and their image
+abbrev pub IsReady : Option Files → RunCommand → Executable → State → Distilled → Type 0
+IsReady told r program s image = (p : List ℕ) × (i : List ℕ) × AreRunFiles told r p image i × (s ≡ start_from p i) × (program ≡ program_of p)
 
 -- a report is asked for: there was no memory for a speculative machine, and nothing was put and no file has changed; or it runs from this state
-abbrev pub Reported : State → Distilled → RunCommand → List ℕ → Reads → Option Files → Puts → Answer → Type 0
-Reported s image r name store left out a =
+abbrev pub Reported : Executable → State → Distilled → RunCommand → List ℕ → Reads → Option Files → Puts → Answer → Type 0
+Reported program s image r name store left out a =
     ((a ≡ Memory) × GotNothing out × (left ≡ store.told))
-    ⊎ Speculated (world s image r.slaves) (models_from r s image) r.budget name store left out a
+    ⊎ Speculated (world s image r.slaves) (models_from r.adapt r program s image) r.budget name store left out a
 
 -- what it comes to behind its files: its machine runs alone, and no file changes; or a report is asked for, and a speculative machine runs, which has these
 -- models after each number of events
@@ -70,7 +74,7 @@ RunFrom (Some name) r w models store left out a = Speculated w models r.budget n
 abbrev pub RunCause : Reads → Option Files → RunCommand → Puts → Answer → Type 0
 RunCause store left r out a =
     (Unready store r a × GotNothing out × (left ≡ store.told))
-    ⊎ ((p : List ℕ) × (i : List ℕ) × (image : Distilled) × AreRunFiles store.told r p image i × RunFrom r.report r (world_from p i image r.slaves) (models_from r (start_from p i) image) store left out a)
+    ⊎ ((p : List ℕ) × (i : List ℕ) × (image : Distilled) × AreRunFiles store.told r p image i × RunFrom r.report r (world_from p i image r.slaves) (models_from r.adapt r (program_of p) (start_from p i) image) store left out a)
 
 -- a run completed, and the answer tells where it stands
 abbrev pub Completes : Answer → Type 0

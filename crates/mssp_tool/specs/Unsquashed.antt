@@ -42,7 +42,7 @@ abbrev pub IsMetToTheEnd : Option (List ℕ) → State → Distilled → Type 0
 IsMetToTheEnd None start image = Unit {0}
 IsMetToTheEnd (Some name) start image = Fits (program start) image × ((n : ℕ) × Meets start image n × EndsWithin (state_at start) n)
 
--- the files of a run are these, the report that was written sums up this model, and it counts no squash and no task that was given up
+-- the files of a run are these, the report that was written sums up this model, and it counts no squash and no task that was given up, where the image stays
 pub record ReportIsUnsquashed (told left : Option Files) (r : RunCommand) (name : List ℕ) : Type 0 where
   pub p : List ℕ
   pub i : List ℕ
@@ -50,4 +50,4 @@ pub record ReportIsUnsquashed (told left : Option Files) (r : RunCommand) (name 
   pub files : AreRunFiles told r p image i
   pub last : Model
   pub written : Written told left name (summary_text last)
-  pub unsquashed : IsMetToTheEnd r.image (start_from p i) image → (last.counts.squashed ≡ 0) × (last.counts.dropped ≡ 0)
+  pub unsquashed : r.adapt ≡ None → IsMetToTheEnd r.image (start_from p i) image → (last.counts.squashed ≡ 0) × (last.counts.dropped ≡ 0)

@@ -51,6 +51,7 @@ returns-in-Ok-load-clause-answer g c =
           input = is_input (g.S.Store.told c.args.store.now) (g.S.Store.told c.named_image_in.new.store) r.input i (second.files ∙ first.files) c.in-Ok-input_in.ensures.answer;
         },
         c.in-Ok-load.ensures.state ∙ ap (λ q. start_of q i) has.2,
+        has.2,
       ),
       c.in-Ok.ensures.answer.0,
       c.in-Ok-load.ensures.position,

@@ -23,4 +23,4 @@ returns-in-Some-clause-cause g c =
     let ready = c.in-Ok.ensures.answer.0 in
     reported_cause r c.in-Some.name.now c.in-Ok.ready.image (g.S.Store.told c.args.store.now) (g.S.Store.told c.prepare.new.store) (g.S.Store.told c.run_reported.new.store) (g.S.Store.faults c.args.store.now) (g.S.Store.faults c.prepare.new.store) (g.S.Store.faults c.run_reported.new.store) (g.S.Store.failed c.run_reported.new.store)
     (record { told = g.O.Sink.told c.args.out.now; left = g.O.Sink.told c.run_reported.new.out; before = g.O.Sink.faults c.args.out.now; now = g.O.Sink.faults c.run_reported.new.out })
-    c.run_reported.result (ap option_copied c.in-Some.is) first.files first.faults ready.0 ready.1 ready.3 ready.2 c.run_reported.ensures
+    c.run_reported.result (ap option_copied c.in-Some.is) first.files first.faults ready.0 ready.1 ready.3 ready.4 ready.2 c.run_reported.ensures
