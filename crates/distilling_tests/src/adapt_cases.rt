@@ -1,6 +1,6 @@
 //! A recorder beside the profile of a run, and an adapter of a small program.
 
-ghost use Rattle.std.specs.Prelude.{◌≡◌, ◌≤◌, ◌^◌, [], false, IfOk, OnOk};
+ghost use Rattle.std.specs.Prelude.{◌≡◌, ◌≤◌, ◌^◌, [], false, IfOk};
 ghost use Rattle.std.specs.Bool.{OnTrue};
 ghost use Rattle.cells.specs.Run.{is_over};
 ghost use Rattle.elf_reader.specs.Executable.{IsProgram};
@@ -8,13 +8,15 @@ ghost use Rattle.seq_machine.specs.Parts.{start_of};
 ghost use Rattle.fitting.specs.Fails.{state_at};
 
 use crate::profiler_cases::program;
-use crate::programs::NEVER_TRUE;
+use crate::programs::{NEVER_TRUE, anchor};
 use adapt::Adapter;
-use dist_image::{Anchor, Assumption, Image, Slot};
+use dist_image::{Assumption, Image, Slot};
 use elf_reader::Program;
+use memory::PlainMemory;
 use profile_data::write_profile;
 use profiler::{Recorder, profile};
-use std::alloc::Global;
+use seq_machine::{Machine, load};
+use std::alloc::{AllocError, Global};
 use std::test::Fail;
 
 /// Ten turns of a loop of two instructions, and the exit.
@@ -28,13 +30,11 @@ static TEN_TURNS: [u32; 6] = [
 ];
 
 /// A recorder of a program without input, after so many steps or those to the end of its run.
-fn recorded(alloc: Global, p: &Program, steps: u64, calls: bool) -> Result<Recorder, Fail>
+fn recorded(alloc: Global, p: &Program, steps: u64) -> Result<Recorder, Fail>
     requires program { IsProgram p.now }
     requires steps { steps ≤ 10 ^ 12 }
-    ensures program { IfOk result (λ r. r.program ≡ p.now) }
-    ensures input { IfOk result (λ r. r.input ≡ []) }
 {
-    let mut recorder = Recorder::new(alloc, p, Vec::new(alloc), calls)?;
+    let mut recorder = Recorder::new(alloc, p, Vec::new(alloc), false)?;
     while recorder.steps() < steps && !recorder.ended() {
         recorder.one(alloc)?;
     }
@@ -47,11 +47,15 @@ fn goes_on(alloc: Global, p: &Program, steps: u64) -> Result<bool, Fail>
     requires steps { steps ≤ 10 ^ 12 }
     ensures { IfOk result (λ on. OnTrue on (is_over (state_at (start_of p.now []) steps) ≡ false)) }
 {
-    let recorder = recorded(alloc, p, steps, true)?;
-    Ok(recorder.steps() == steps && !recorder.ended())
+    let mut machine: Machine<PlainMemory> = load(alloc, p, Vec::new(alloc))?;
+    while machine.position < steps && machine.end.is_none() {
+        machine.one(alloc)?;
+    }
+    Ok(machine.position == steps && machine.end.is_none())
 }
 
-/// What an adapter answers at a position, at which the run must go on.
+/// What an adapter answers at a position, at which the run must go on. Where memory is wanting an image
+/// is due as before, and is asked for once more.
 fn next(
     alloc: Global,
     adapter: &mut Adapter,
@@ -67,10 +71,14 @@ fn next(
     ensures input { adapter.new.input ≡ [] }
     ensures asked { adapter.new.asked ≤ position }
 {
-    if goes_on(alloc, p, position)? {
-        Ok(adapter.next(alloc, position)?)
-    } else {
-        Ok(None)
+    if !goes_on(alloc, p, position)? {
+        return Err(Fail::new("the run has ended"));
+    }
+    let due = adapter.due();
+    match adapter.next(alloc, position) {
+        Ok(image) => Ok(image),
+        Err(AllocError) if adapter.due() == due => Ok(adapter.next(alloc, position)?),
+        Err(AllocError) => Err(Fail::new("it was due otherwise")),
     }
 }
 
@@ -78,7 +86,7 @@ fn next(
 fn a_recorder_has_the_profile_of_its_steps(rt: HostRuntime) -> Result<(), Fail> {
     let program = program(rt.alloc(), &NEVER_TRUE, 40)?;
     for steps in [0, 1, 12, 44, 45] {
-        let recorder = recorded(rt.alloc(), &program, steps, false)?;
+        let recorder = recorded(rt.alloc(), &program, steps)?;
         assert_eq!(rt; (recorder.steps(), recorder.ended()), (steps, steps == 45));
         let found = recorder.profile(rt.alloc())?;
         let want = profile(rt.alloc(), &program, Vec::new(rt.alloc()), steps, false)?;
@@ -89,17 +97,17 @@ fn a_recorder_has_the_profile_of_its_steps(rt: HostRuntime) -> Result<(), Fail> 
     Ok(())
 }
 
+/// The image of its first five steps: ahead of the tasks only the loop's count is kept, and no turn is the last.
 #[test]
 fn an_image_is_due_after_five_steps(rt: HostRuntime) -> Result<(), Fail> {
     let program = program(rt.alloc(), &TEN_TURNS, 24)?;
     let mut adapter = Adapter::new(rt.alloc(), &program, Vec::new(rt.alloc()), 5)?;
-    assert!(rt; next(rt.alloc(), &mut adapter, &program, 4)?.is_none());
-    assert_eq!(rt; adapter.due(), 5);
+    let early = next(rt.alloc(), &mut adapter, &program, 4)?.is_some();
+    assert_eq!(rt; (early, adapter.due()), (false, 5));
     let Some(image) = next(rt.alloc(), &mut adapter, &program, 5)? else {
         return Err(Fail::new("no image at position 5"));
     };
-    assert_eq!(rt; adapter.due(), 10);
-    assert_eq!(rt; image.limit, 4_096);
+    assert_eq!(rt; (adapter.due(), image.limit), (10, 4_096));
     let slots = [
         Slot::Fork { anchor: 0 },
         Slot::Exec {
@@ -113,21 +121,19 @@ fn an_image_is_due_after_five_steps(rt: HostRuntime) -> Result<(), Fail> {
         },
         Slot::Go { target: 0x1_0004 },
     ];
-    assert_eq!(rt; image.slots.as_slice(), slots.as_slice());
-    let anchors = [
-        Anchor {
-            pc: 0x1_0000,
-            slot: 0,
-            count: 64,
-        },
-        Anchor {
-            pc: 0x1_0004,
-            slot: 2,
-            count: 64,
-        },
-    ];
-    assert_eq!(rt; image.anchors.as_slice(), anchors.as_slice());
-    assert!(rt; matches!(image.assumptions.first(), Some(Assumption::Cut { at: 0x1_0008, taken: false })));
+    let anchors = [anchor(0x1_0000, 0, 64), anchor(0x1_0004, 2, 64)];
+    assert!(rt;
+        image.slots.as_slice() == slots.as_slice() && image.anchors.as_slice() == anchors.as_slice()
+    );
+    assert!(rt;
+        matches!(
+            image.assumptions.first(),
+            Some(Assumption::Cut {
+                at: 0x1_0008,
+                taken: false
+            })
+        )
+    );
     Ok(())
 }
 
@@ -135,11 +141,36 @@ fn an_image_is_due_after_five_steps(rt: HostRuntime) -> Result<(), Fail> {
 fn the_next_is_due_from_the_position_asked(rt: HostRuntime) -> Result<(), Fail> {
     let program = program(rt.alloc(), &TEN_TURNS, 24)?;
     let mut adapter = Adapter::new(rt.alloc(), &program, Vec::new(rt.alloc()), 5)?;
-    assert!(rt; next(rt.alloc(), &mut adapter, &program, 8)?.is_some());
-    assert_eq!(rt; adapter.due(), 13);
-    assert!(rt; next(rt.alloc(), &mut adapter, &program, 8)?.is_none());
-    assert!(rt; next(rt.alloc(), &mut adapter, &program, 12)?.is_none());
-    assert!(rt; next(rt.alloc(), &mut adapter, &program, 20)?.is_some());
-    assert_eq!(rt; adapter.due(), 25);
+    let cases = [
+        (8, true, 13),
+        (8, false, 13),
+        (12, false, 13),
+        (20, true, 25),
+        (22, false, 25),
+    ];
+    for (position, due, then) in cases {
+        let made = next(rt.alloc(), &mut adapter, &program, position)?.is_some();
+        assert_eq!(rt; (made, adapter.due()), (due, then), "at {position}");
+    }
+    Ok(())
+}
+
+/// As many instructions as a profile may have rows, each executed once, and behind them one that jumps to
+/// itself.
+#[test]
+fn a_run_gets_too_wide(rt: HostRuntime) -> Result<(), Fail> {
+    let mut words = vec![in rt.alloc(); 0x0000_0013_u32; 524_288]?;
+    words.push(0x0000_006F)?;
+    let program = program(rt.alloc(), &words, 4 * 524_289)?;
+    let mut adapter = Adapter::new(rt.alloc(), &program, Vec::new(rt.alloc()), 3)?;
+    let cases = [
+        (3, true, 6),
+        (524_289, false, 524_292),
+        (524_300, false, 524_303),
+    ];
+    for (position, fits, then) in cases {
+        let made = next(rt.alloc(), &mut adapter, &program, position)?.is_some();
+        assert_eq!(rt; (made, adapter.due()), (fits, then), "at {position}");
+    }
     Ok(())
 }
