@@ -1,19 +1,14 @@
 -- Which stores a list claims dead, and that a search for their keys finds them.
-use Rattle.std.proofs.Common.{◌≡◌, ℕ, zero, suc, ◌+◌, ◌*◌, ◌<◌, ◌^◌, Bool, true, false, not, ◌||◌, cond, List, [], ◌∷◌, map, length, get_or, Some, Result, Ok, Err, refl, sym, ap, subst, ◌∙◌, true≢false, All, arith}
-use Rattle.std.specs.Prelude.{nat_eq, slice_get}
-use Rattle.std.specs.List.{list_any}
-use Rattle.std.specs.List.Sorted.{IsStrictlyIncreasing, IsSearchInRange, IsBinarySearchResult}
-use Rattle.std.specs.Ordering.{nat_cmp}
-use Rattle.std.specs.Result.{is_ok}
-use Rattle.std.proofs.lemmas.Bool.{eq-eqb, eqb-true}
+use Rattle.std.proofs.Common.{◌≡◌, ℕ, ◌+◌, ◌*◌, ◌<◌, ◌^◌, Bool, true, false, not, ◌||◌, cond, List, [], ◌∷◌, map, length, get_or, Some, refl, sym, ap, subst, ◌∙◌, true≢false, All, arith}
+use Rattle.std.specs.Prelude.{nat_eq, is_some, ◌==◌}
+use Rattle.std.specs.List.{list_any, AllByRecursion}
+use Rattle.std.proofs.lemmas.Bool.Decides.{nat_tests}
 use Rattle.std.proofs.lemmas.List.{length-map, get_or-map}
-use Rattle.std.proofs.lemmas.List.Elements.{All-get_or}
+use Rattle.std.proofs.lemmas.List.Elements.{All-get_or, recursion_from_All}
 use Rattle.dist_image.specs.declared.image.Assumption.{Assumption}
-use Rattle.dist_image.specs.declared.image.Assumption.TheVariants as assumption
-use Rattle.dist_image.specs.Image.{Premise, Cut, Targets, Dead, Code, Within, Span, Same, IsPremise, premise, place_of, key_of}
-use Rattle.dist_image.proofs.Search.{found_has}
+use Rattle.dist_image.specs.Image.{Premise, Cut, Targets, Dead, Code, Within, Span, Same, IsPremise, premise, place_of, key_of, keyed}
 use Rattle.assume_list.specs.Marks.{with_dead, dead_in}
-use Rattle.assume_list.proofs.Quiet.{listed_any, not_there}
+use Rattle.assume_list.specs.Sights.{is_code, is_within}
 
 abbrev is_dead_at : ℕ → Premise → Bool
 is_dead_at a (Dead at) = nat_eq at a
@@ -42,59 +37,57 @@ claims xs a = ap (λ n. not (nat_eq n 0)) (claimed xs (λ _. 0) a) ∙ back (lis
     back true = refl
     back false = refl
 
+-- ---- what is listed under a key is what passes a test, where the key tells the test
+
+-- the key of each assumption is this one exactly where it passes
+abbrev Tells : (Premise → Bool) → ℕ → Type 0
+Tells test key = (x : Premise) → place_of x < 2 ^ 32 → (key_of x == key) ≡ test x
+
+listed_passes : (test : Premise → Bool) (key : ℕ) → Tells test key → (xs : List Premise) → AllByRecursion IsPremise xs → is_some (keyed key xs) ≡ list_any test xs
+listed_passes test key tells [] h = refl
+listed_passes test key tells (x ∷ xs) h = at_first (key_of x == key) (test x) (tells x h.0.0.1) (listed_passes test key tells xs h.1)
+  where
+    at_first : (b t : Bool) → b ≡ t → is_some (keyed key xs) ≡ list_any test xs → is_some (cond b (Some x) (keyed key xs)) ≡ (t || list_any test xs)
+    at_first true true e more = refl
+    at_first false false e more = more
+    at_first true false e more = absurd (true≢false e)
+    at_first false true e more = absurd (true≢false (sym e))
+
+pub key_passes : (test : Premise → Bool) (key : ℕ) → Tells test key → (xs : List Premise) → All IsPremise xs → is_some (keyed key xs) ≡ list_any test xs
+key_passes test key tells xs all = listed_passes test key tells xs (recursion_from_All IsPremise xs all)
+
+tells_dead : (a : ℕ) → a < 2 ^ 32 → Tells (is_dead_at a) (2 * 4294967296 + a)
+tells_dead a l (Cut at taken) p = grind (arith, nat_tests)
+tells_dead a l (Targets at to) p = grind (arith, nat_tests)
+tells_dead a l (Dead at) p = grind (arith, nat_tests)
+tells_dead a l Code p = grind (arith, nat_tests)
+tells_dead a l Within p = grind (arith, nat_tests)
+tells_dead a l Span p = grind (arith, nat_tests)
+tells_dead a l (Same at value) p = grind (arith, nat_tests)
+
+pub tells_code : Tells is_code 12884901888
+tells_code (Cut at taken) p = grind (arith, nat_tests)
+tells_code (Targets at to) p = grind (arith, nat_tests)
+tells_code (Dead at) p = grind (arith, nat_tests)
+tells_code Code p = refl
+tells_code Within p = refl
+tells_code Span p = refl
+tells_code (Same at value) p = grind (arith, nat_tests)
+
+pub tells_within : Tells is_within 17179869184
+tells_within (Cut at taken) p = grind (arith, nat_tests)
+tells_within (Targets at to) p = grind (arith, nat_tests)
+tells_within (Dead at) p = grind (arith, nat_tests)
+tells_within Code p = refl
+tells_within Within p = refl
+tells_within Span p = refl
+tells_within (Same at value) p = grind (arith, nat_tests)
+
 -- a store is claimed by the assumption with its key
-by_key : (a : ℕ) (x : Premise) → a < 2 ^ 32 → place_of x < 2 ^ 32 → key_of x ≡ 2 * 4294967296 + a → is_dead_at a x ≡ true
-by_key a (Cut at taken) l p e = absurd (omega (arith, l, p, e))
-by_key a (Targets at to) l p e = absurd (omega (arith, l, p, e))
-by_key a (Dead at) l p e = eq-eqb at a (omega (arith, e))
-by_key a Code l p e = absurd (omega (arith, l, e))
-by_key a Within l p e = absurd (omega (arith, l, e))
-by_key a Span l p e = absurd (omega (arith, l, e))
-by_key a (Same at value) l p e = absurd (omega (arith, l, p, e))
+pub claimed_by_key : (a : ℕ) → a < 2 ^ 32 → (xs : List Premise) → All IsPremise xs → is_some (keyed (2 * 4294967296 + a) xs) ≡ not (nat_eq (dead_in xs a) 0)
+claimed_by_key a l xs all = key_passes (is_dead_at a) (2 * 4294967296 + a) (tells_dead a l) xs all ∙ sym (claims xs a)
 
-key_is : (a : ℕ) (x : Premise) → is_dead_at a x ≡ true → key_of x ≡ 2 * 4294967296 + a
-key_is a (Dead at) e = let same = eqb-true at a e in omega (arith, same)
-key_is a (Cut at taken) e = absurd (true≢false (sym e))
-key_is a (Targets at to) e = absurd (true≢false (sym e))
-key_is a Code e = absurd (true≢false (sym e))
-key_is a Within e = absurd (true≢false (sym e))
-key_is a Span e = absurd (true≢false (sym e))
-key_is a (Same at value) e = absurd (true≢false (sym e))
-
-there_at : (xs : List Assumption) (k : ℕ) (d : Assumption) → k < length xs → slice_get (map premise xs) k ≡ Some (premise (get_or xs k d))
-there_at [] k d l = absurd (omega (arith, l))
-there_at (x ∷ xs) zero d l = refl
-there_at (x ∷ xs) (suc k) d l = there_at xs k d (omega (arith, l))
+-- ---- bounds
 
 pub premise_at : (xs : List Assumption) → All IsPremise (map premise xs) → (k : ℕ) (d : Assumption) → k < length xs → IsPremise (premise (get_or xs k d))
 premise_at xs all k d l = let long = length-map xs premise in subst IsPremise (get_or-map premise xs k d Code l) (All-get_or IsPremise (map premise xs) k Code (omega (arith, l, long)) all)
-
-pub places_below : (xs : List Assumption) → All IsPremise (map premise xs) → (k : ℕ) (d : Assumption) → k < length xs → place_of (premise (get_or xs k d)) < 2 ^ 32
-places_below xs all k d l = (premise_at xs all k d l).0.1
-
--- where one passes there is one
-one_passes : (test : Premise → Bool) (xs : List Premise) → list_any test xs ≡ true → (k : ℕ) × (x : Premise) × (slice_get xs k ≡ Some x) × (test x ≡ true)
-one_passes test [] e = absurd (true≢false (sym e))
-one_passes test (x ∷ xs) e = go (test x) refl (one_passes test xs) e
-  where
-    go : (b : Bool) → test x ≡ b → (list_any test xs ≡ true → (k : ℕ) × (y : Premise) × (slice_get xs k ≡ Some y) × (test y ≡ true)) → (b || list_any test xs) ≡ true
-        → (k : ℕ) × (y : Premise) × (slice_get (x ∷ xs) k ≡ Some y) × (test y ≡ true)
-    go true t more e = (0, x, refl, t)
-    go false t more e = let r = more e in (suc r.0, r.1, r.2, r.3)
-
-no_truth : (b : Bool) → (b ≡ true → ⊥) → false ≡ b
-no_truth true h = absurd (h refl)
-no_truth false h = refl
-
-pub claims_searched : (xs : List Assumption) (a : ℕ) (r : Result ℕ ℕ) → a < 2 ^ 32
-    → ((k : ℕ) (d : Assumption) → k < length xs → place_of (premise (get_or xs k d)) < 2 ^ 32) → IsStrictlyIncreasing (map (λ x. key_of (premise x)) xs)
-    → IsSearchInRange r (length xs) → IsBinarySearchResult (λ x. nat_cmp (key_of (premise x)) (2 * 4294967296 + a)) xs r
-    → is_ok r ≡ not (nat_eq (dead_in (map premise xs) a) 0)
-claims_searched xs a (Ok place) l places rise bound found =
-    let d = assumption.Code in
-    let here = by_key a (premise (get_or xs place d)) l (places place d bound) (found_has (λ x. key_of (premise x)) d (2 * 4294967296 + a) xs rise place found) in
-    sym (claims (map premise xs) a ∙ listed_any (is_dead_at a) (map premise xs) place (premise (get_or xs place d)) (there_at xs place d bound) here)
-claims_searched xs a (Err place) l places rise bound parted =
-    no_truth (list_any (is_dead_at a) (map premise xs))
-    (λ some. let one = one_passes (is_dead_at a) (map premise xs) some in not_there assumption.Code xs rise (2 * 4294967296 + a) place one.0 one.1 bound parted one.2 (key_is a one.1 one.3))
-    ∙ sym (claims (map premise xs) a)

@@ -1,15 +1,9 @@
 -- Where nothing that is seen of a position can fail, nothing does.
-use Rattle.std.proofs.Common.{◌≡◌, inl, inr, ℕ, zero, suc, ◌+◌, ◌*◌, ◌<◌, ◌≤◌, Bool, true, false, not, ◌||◌, ◌&&◌, cond, List, [], ◌∷◌, map, length, get_or, Option, Some, None, refl, sym, ap, ◌∙◌, subst, ⊎_elim, true≢false, arith}
-use Rattle.std.specs.Prelude.{nat_eq, slice_get, is_none, Ok, Err}
+use Rattle.std.proofs.Common.{◌≡◌, ℕ, zero, suc, ◌+◌, ◌*◌, Bool, true, false, not, ◌||◌, ◌&&◌, cond, List, [], ◌∷◌, length, Option, Some, None, refl, sym, ap, ◌∙◌, ⊎_elim, true≢false, arith}
+use Rattle.std.specs.Prelude.{nat_eq, slice_get, is_none}
 use Rattle.std.specs.List.{list_any}
-use Rattle.std.specs.List.Sorted.{IsStrictlyIncreasing}
-use Rattle.std.specs.Ordering.{nat_cmp}
-use Rattle.std.specs.List.Sorted.{IsBinarySearchResult}
-use Rattle.std.proofs.lemmas.Bool.{ne_eqb, cases_eq, cases_lt, or_left, or_right}
-use Rattle.std.proofs.lemmas.List.{get_or-map, length-map}
-use Rattle.dist_image.specs.declared.image.Assumption.{Assumption}
-use Rattle.dist_image.specs.Image.{Premise, Cut, Targets, Dead, Code, Within, Span, Same, premise, key_of}
-use Rattle.dist_image.proofs.Search.{rising, found_has, absent}
+use Rattle.std.proofs.lemmas.Bool.{ne_eqb, cases_eq, or_left, or_right}
+use Rattle.dist_image.specs.Image.{Premise, Cut, Targets, Dead, Code, Within, Span, Same, key_of}
 use Rattle.fitting.specs.Claims.{among}
 use Rattle.assumption_laws.specs.Looks.{Look, is_side, is_other, fails_by, first_from}
 use Rattle.assume_list.specs.Sights.{is_code, is_within, is_same}
@@ -27,56 +21,6 @@ listed_any test (y ∷ ys) (suc k) x e h = or_right (test y) _ (listed_any test 
 pub none_first : (f : Premise → Bool) (n : ℕ) (xs : List Premise) → ((k : ℕ) (x : Premise) → slice_get xs k ≡ Some x → f x ≡ false) → None ≡ first_from f n xs
 none_first f n [] e = refl
 none_first f n (x ∷ xs) e = none_first f (suc n) xs (λ k y at. e (suc k) y at) ∙ ap (λ b. cond b (Some n) (first_from f (suc n) xs)) (sym (e 0 x refl))
-
--- ---- a search by key
-
-keys_same : (xs : List Assumption) → map key_of (map premise xs) ≡ map (λ x. key_of (premise x)) xs
-keys_same [] = refl
-keys_same (x ∷ xs) = ap (λ ks. key_of (premise x) ∷ ks) (keys_same xs)
-
-pub keys_of : (ps : List Premise) (xs : List Assumption) → ps ≡ map premise xs → IsStrictlyIncreasing (map key_of ps) → IsStrictlyIncreasing (map (λ x. key_of (premise x)) xs)
-keys_of ps xs e rise = subst IsStrictlyIncreasing (ap (map key_of) e ∙ keys_same xs) rise
-
-module _ (d : Assumption) where
-  is_entry : (xs : List Assumption) (k : ℕ) (x : Premise) → slice_get (map premise xs) k ≡ Some x → (k < length xs) × (premise (get_or xs k d) ≡ x)
-  is_entry [] k x e = absurd (cc)
-  is_entry (y ∷ ys) zero x e = (omega arith, same (premise y) x e)
-    where
-      same : (y x : Premise) → ◌≡◌ {A = Option Premise} (Some y) (Some x) → y ≡ x
-      same y x e = cc
-  is_entry (y ∷ ys) (suc k) x e = let r = is_entry ys k x e in let l = r.0 in (omega (arith, l), r.1)
-
-  module _ (xs : List Assumption) (rise : IsStrictlyIncreasing (map (λ x. key_of (premise x)) xs)) (wanted : ℕ) where
-    keys_rise : (i j : ℕ) → i < j → j < length xs → key_of (premise (get_or xs i d)) < key_of (premise (get_or xs j d))
-    keys_rise i j lt within =
-        let f : Assumption → ℕ = (λ x. key_of (premise x)) in
-        let long = length-map xs f in
-        let a = get_or-map f xs i d 0 (omega (arith, lt, within)) in
-        let b = get_or-map f xs j d 0 within in
-        let up = rising (map f xs) rise i j lt (omega (arith, long, within)) in
-        omega (arith, up, a, b)
-
-    one_place : (i j : ℕ) → i < length xs → j < length xs → key_of (premise (get_or xs i d)) ≡ key_of (premise (get_or xs j d)) → i ≡ j
-    one_place i j l m e = elim (cases_lt i j) [
-      | inl below ↦ let up = keys_rise i j below m in absurd (omega (arith, up, e))
-      | inr above ↦ ⊎_elim (λ (s : i ≡ j). s) (λ (ne : i ≡ j → ⊥). let up = keys_rise j i (omega (arith, above, ne)) l in absurd (omega (arith, up, e))) (cases_eq i j)
-    ]
-
-    -- the entry at the place where the search ends is the one with the key
-    pub found_there : (place k : ℕ) (x : Premise) → place < length xs → IsBinarySearchResult (λ x. nat_cmp (key_of (premise x)) wanted) xs (Ok place)
-        → slice_get (map premise xs) k ≡ Some x → key_of x ≡ wanted → premise (get_or xs place d) ≡ x
-    found_there place k x l found at is =
-        let entry = is_entry xs k x at in
-        let here = found_has (λ x. key_of (premise x)) d wanted xs rise place found in
-        let there : key_of (premise (get_or xs k d)) ≡ wanted = ap key_of entry.1 ∙ is in
-        ap (λ n. premise (get_or xs n d)) (one_place place k l entry.0 (here ∙ sym there)) ∙ entry.1
-
-    -- where it ends at none, there is none
-    pub not_there : (place k : ℕ) (x : Premise) → place ≤ length xs → IsBinarySearchResult (λ x. nat_cmp (key_of (premise x)) wanted) xs (Err place)
-        → slice_get (map premise xs) k ≡ Some x → key_of x ≡ wanted → ⊥
-    not_there place k x l parted at is =
-        let entry = is_entry xs k x at in
-        absent (λ x. key_of (premise x)) d wanted xs rise place l parted k entry.0 (ap key_of entry.1 ∙ is)
 
 -- ---- each kind
 

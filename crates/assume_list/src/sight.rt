@@ -11,10 +11,7 @@ ghost use Rattle.assumption_laws.specs.Looks.{is_other, fails_by, first_from};
 ghost use Rattle.assume_list.specs.Marks.{dead_in};
 ghost use Rattle.assume_list.specs.Sights.{seen, is_code, is_within, is_same};
 
-use dist_image::{Assumption, Image, anchor_at, slot_of};
-
-/// The step from one kind of assumption to the next, in the order of a list.
-const KIND: u64 = 4_294_967_296;
+use dist_image::{Assumption, Image, KIND, anchor_at, keyed, lists, slot_of};
 
 /// Whether an image lists the assumptions that speak of no single pc, but for Span, and whether it lists one of a value that a
 /// load has.
@@ -129,29 +126,12 @@ fn first_of(sight: &Sight, marks: &[u32], xs: &[Assumption]) -> Option<u32>
     None
 }
 
-// The kind of an assumption and its pc, as one number: lists are ordered by it.
-fn key_of(x: &Assumption) -> u64
-    ensures { result ≡ key_of (premise x.now) }
-{
-    match x {
-        Assumption::Cut { at, .. } => u64::from(*at),
-        Assumption::Targets { at, .. } => KIND + u64::from(*at),
-        Assumption::Dead { at } => 2 * KIND + u64::from(*at),
-        Assumption::Code => 3 * KIND,
-        Assumption::Within => 4 * KIND,
-        Assumption::Span => 5 * KIND,
-        Assumption::Same { at, .. } => 6 * KIND + u64::from(*at),
-    }
-}
-
 /// Whether a store at an address is claimed dead.
 pub(crate) fn claims_dead(image: &Image, pc: u32) -> bool
     requires { IsImage image.now }
     ensures { result ≡ not (nat_eq (dead_in image.now.assumptions pc) 0) }
 {
-    let key = 2 * KIND + u64::from(pc);
-    let xs = image.assumptions.as_slice();
-    xs.binary_search_by_key(&key, |x| key_of(x)).is_ok()
+    lists(image, 2 * KIND + u64::from(pc))
 }
 
 // Whether the assumption with a key fails, where one is listed.
@@ -160,10 +140,9 @@ fn keyed_fails(sight: &Sight, marks: &[u32], image: &Image, key: u64) -> bool
     requires { IsImage image.now }
     ensures { (k : ℕ) (x : Premise) → slice_get image.now.assumptions k ≡ Some x → key_of x ≡ key → result ≡ fails_by (seen sight.now marks.now) x }
 {
-    let xs = image.assumptions.as_slice();
-    match xs.binary_search_by_key(&key, |x| key_of(x)) {
-        Ok(place) => fails(sight, marks, &xs[place]),
-        Err(_) => false,
+    match keyed(image, key) {
+        Some(x) => fails(sight, marks, x),
+        None => false,
     }
 }
 
@@ -234,28 +213,20 @@ pub(crate) fn first_failing(
     first_of(sight, marks, &image.assumptions)
 }
 
-// Whether an entry of a list is Code.
-fn lists_code(xs: &[Assumption]) -> bool
-    ensures { result ≡ list_any is_code (map premise xs.now) }
+/// Whether an image lists that no analysed instruction is changed.
+fn lists_code(image: &Image) -> bool
+    requires { IsImage image.now }
+    ensures { result ≡ list_any is_code image.now.assumptions }
 {
-    for x in xs {
-        if matches!(x, Assumption::Code) {
-            return true;
-        }
-    }
-    false
+    lists(image, 3 * KIND)
 }
 
-// Whether an entry of a list is Within.
-fn lists_within(xs: &[Assumption]) -> bool
-    ensures { result ≡ list_any is_within (map premise xs.now) }
+/// Whether an image lists that the run does not leave the analysed addresses.
+fn lists_within(image: &Image) -> bool
+    requires { IsImage image.now }
+    ensures { result ≡ list_any is_within image.now.assumptions }
 {
-    for x in xs {
-        if matches!(x, Assumption::Within) {
-            return true;
-        }
-    }
-    false
+    lists(image, 4 * KIND)
 }
 
 // Whether an entry of a list is Same.
@@ -278,8 +249,8 @@ pub(crate) fn look_up(image: &Image) -> Listed
     ensures same { result.same ≡ list_any is_same image.now.assumptions }
 {
     Listed {
-        code: lists_code(&image.assumptions),
-        within: lists_within(&image.assumptions),
+        code: lists_code(image),
+        within: lists_within(image),
         same: lists_same(&image.assumptions),
     }
 }

@@ -1,30 +1,15 @@
 -- What a list claims of a pc is what it has under a key.
-use Rattle.std.proofs.Common.{◌≡◌, ℕ, ◌+◌, ◌<◌, ◌≤◌, ◌^◌, ◌==◌, ◌||◌, ◌↔◌, zero, suc, Bool, true, false, cond, List, [], ◌∷◌, map, length, get_or, Ok, Err, Option, Some, None, refl, sym, ap, subst, ◌∙◌, arith, true≢false, eqb-true, eq-eqb, All}
+use Rattle.std.proofs.Common.{◌≡◌, ℕ, ◌+◌, ◌<◌, ◌^◌, ◌==◌, ◌||◌, ◌↔◌, zero, suc, Bool, true, false, cond, List, [], ◌∷◌, Option, Some, None, refl, sym, ap, ◌∙◌, arith, true≢false, eqb-true, eq-eqb, All}
 use Rattle.std.specs.Prelude.{nat_eq, slice_get, filter_map, is_some, option_and_then}
-use Rattle.std.specs.List.{cons_option, find, AllByRecursion}
-use Rattle.std.specs.List.Sorted.{IsStrictlyIncreasing, IsBinarySearchResult}
+use Rattle.std.specs.List.{cons_option, AllByRecursion}
 use Rattle.std.specs.Map.{lookup}
 use Rattle.std.specs.Option.{option_map, option_map_or}
-use Rattle.std.specs.Ordering.{nat_cmp}
 use Rattle.std.proofs.lemmas.Bool.Decides.{nat_tests}
 use Rattle.std.proofs.lemmas.List.Elements.{recursion_from_All}
-use Rattle.dist_image.specs.declared.image.Assumption.{Assumption}
-use Rattle.dist_image.specs.declared.image.Assumption.TheVariants as assumption
-use Rattle.dist_image.proofs.Search.{found, none_found}
-use Rattle.dist_image.specs.Image.{Premise, Cut, Targets, Dead, Code, Within, Span, Same, IsPremise, premise, place_of, key_of}
+use Rattle.dist_image.specs.Image.{Premise, Cut, Targets, Dead, Code, Within, Span, Same, IsPremise, place_of, key_of, keyed}
 use Rattle.fitting.specs.Claims.{among, as_cut, as_targets, as_dead, as_same}
 use Rattle.fitting.specs.Fits.{IsListed}
-use Rattle.certify.specs.Keys.{keyed, claim}
-
--- what is found among assumptions is found among what they say
-pub said : (key : ℕ) (xs : List Assumption) → option_map premise (find (λ x. key_of (premise x) == key) xs) ≡ keyed key (map premise xs)
-said key [] = refl
-said key (x ∷ xs) = by (key_of (premise x) == key) (said key xs)
-  where
-    by : (b : Bool) → option_map premise (find (λ x. key_of (premise x) == key) xs) ≡ keyed key (map premise xs)
-        → option_map premise (cond b (Some x) (find (λ x. key_of (premise x) == key) xs)) ≡ cond b (Some (premise x)) (keyed key (map premise xs))
-    by true e = refl
-    by false e = e
+use Rattle.certify.specs.Found.{claim}
 
 abbrev IsNear : Premise → Type 0
 IsNear p = place_of p < 2 ^ 32
@@ -172,22 +157,6 @@ within_listed = lists_by_key Within only_within
 
 pub span_listed : (ps : List Premise) → All IsPremise ps → (is_some (keyed 21474836480 ps) ≡ true) ↔ IsListed ps Span
 span_listed = lists_by_key Span only_span
-
--- ---- what a search for a key finds
-
-keys_same : (xs : List Assumption) → map key_of (map premise xs) ≡ map (λ x. key_of (premise x)) xs
-keys_same [] = refl
-keys_same (x ∷ xs) = ap (λ ks. key_of (premise x) ∷ ks) (keys_same xs)
-
-module _ (key : ℕ) (xs : List Assumption) (ps : List Premise) (same : map premise xs ≡ ps) (rise : IsStrictlyIncreasing (map key_of ps)) where
-  keys_rise : IsStrictlyIncreasing (map (λ x. key_of (premise x)) xs)
-  keys_rise = subst IsStrictlyIncreasing (ap (map key_of) (sym same) ∙ keys_same xs) rise
-
-  pub key_found : (place : ℕ) (d : Assumption) → place < length xs → IsBinarySearchResult (λ x. nat_cmp (key_of (premise x)) key) xs (Ok place) → Some (premise (get_or xs place d)) ≡ keyed key ps
-  key_found place d l h = ap (option_map premise) (found (λ x. key_of (premise x)) d key xs keys_rise place l h) ∙ said key xs ∙ ap (keyed key) same
-
-  pub key_absent : (place : ℕ) → place ≤ length xs → IsBinarySearchResult (λ x. nat_cmp (key_of (premise x)) key) xs (Err place) → None ≡ keyed key ps
-  key_absent place l h = ap (option_map premise) (none_found (λ x. key_of (premise x)) assumption.Code key xs keys_rise place l h) ∙ said key xs ∙ ap (keyed key) same
 
 -- ---- what is claimed of a pc
 

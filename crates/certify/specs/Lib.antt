@@ -1,4 +1,4 @@
 pub mod Answers
 pub mod Parts
 pub mod Ways
-pub mod Keys
+pub mod Found

@@ -1,52 +1,14 @@
-//! What an image assumes of an address, by binary search.
+//! What an image assumes of an address, and whether it lists what speaks of no single one.
 
-ghost use Rattle.std.specs.Prelude.{◌≡◌, ◌↔◌, IsTrue, is_some};
+ghost use Rattle.std.specs.Prelude.{◌≡◌, ◌↔◌, IsTrue};
 ghost use Rattle.std.specs.Option.{option_map, option_copied};
-ghost use Rattle.dist_image.specs.Image.{Code, Within, Span, premise, key_of, IsImage};
+ghost use Rattle.dist_image.specs.Image.{Code, Within, Span, premise, IsImage};
 ghost use Rattle.fitting.specs.Claims.{claims, same_at, as_cut, as_targets, as_same};
 ghost use Rattle.fitting.specs.Fits.{IsListed};
 ghost use Rattle.certify.specs.Answers.{AreListed};
-ghost use Rattle.certify.specs.Keys.{keyed, claim};
+ghost use Rattle.certify.specs.Found.{claim};
 
-use dist_image::{Assumption, Image};
-
-/// The step from one kind of assumption to the next, in the order of a list.
-const KIND: u64 = 4_294_967_296;
-
-/// The kind of an assumption and its address, as one number: lists are ordered by it.
-fn key_of(x: &Assumption) -> u64
-    ensures { result ≡ key_of (premise x.now) }
-{
-    match x {
-        Assumption::Cut { at, .. } => u64::from(*at),
-        Assumption::Targets { at, .. } => KIND + u64::from(*at),
-        Assumption::Dead { at } => 2 * KIND + u64::from(*at),
-        Assumption::Code => 3 * KIND,
-        Assumption::Within => 4 * KIND,
-        Assumption::Span => 5 * KIND,
-        Assumption::Same { at, .. } => 6 * KIND + u64::from(*at),
-    }
-}
-
-/// The assumption that an image lists under a key, if it lists one.
-fn keyed(image: &Image, key: u64) -> Option<&Assumption>
-    requires { IsImage image.now }
-    ensures { option_map premise (option_copied result) ≡ keyed key image.now.assumptions }
-{
-    let all = image.assumptions.as_slice();
-    match all.binary_search_by_key(&key, |x| key_of(x)) {
-        Ok(place) => Some(&all[place]),
-        Err(_) => None,
-    }
-}
-
-/// Whether an image lists an assumption under a key.
-fn lists(image: &Image, key: u64) -> bool
-    requires { IsImage image.now }
-    ensures { result ≡ is_some (keyed key image.now.assumptions) }
-{
-    keyed(image, key).is_some()
-}
+use dist_image::{Assumption, Image, KIND, keyed, lists};
 
 /// The side that an assumption cuts, if it cuts one.
 fn cut_of(x: &Assumption) -> Option<bool>

@@ -12,7 +12,8 @@ ghost use Rattle.certify.specs.Ways.{word_done, IsWay};
 use crate::assumed::value_at;
 use crate::passing::goes_on;
 use dist_image::{Image, Note, Slot, anchor_at, slot_of};
-use rv_word::{Inst, constant};
+use fitting::set_word;
+use rv_word::Inst;
 
 /// In which way the distilled program does the word of a note.
 #[derive(Clone, Copy, Debug, PartialEq, Eq)]
@@ -57,17 +58,6 @@ fn word_done(image: &Image, place: usize, pc: u32) -> Option<u32>
 {
     match image.slots.get(place) {
         Some(Slot::Exec { origin, word }) if *origin == pc => Some(*word),
-        _ => None,
-    }
-}
-
-/// The word that sets the register of a load to its one value, if there is one.
-fn set_word(value: Option<u32>, i: &Inst) -> Option<u32>
-    requires { IsWellFormed i.now }
-    ensures { result ≡ set_word value i.now }
-{
-    match (value, *i) {
-        (Some(value), Inst::Load { rd, .. }) if rd != 0 => constant(rd, value),
         _ => None,
     }
 }

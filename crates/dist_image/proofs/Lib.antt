@@ -1,4 +1,5 @@
 pub mod Search
+pub mod KeySearch
 mod Counted
 mod Entries
 mod Premises

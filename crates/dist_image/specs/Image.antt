@@ -86,6 +86,10 @@ targets_of _ = []
 abbrev pub key_of : Premise → ℕ
 key_of p = 2 ^ 32 * kind_of p + place_of p
 
+-- the assumption with a key, if there is one
+abbrev pub keyed : ℕ → List Premise → Option Premise
+keyed key ps = find (λ p. key_of p == key) ps
+
 -- the value that a load is taken to load, or 0 where an assumption speaks of no load
 abbrev pub loads_of : Premise → ℕ
 loads_of (Same at value) = value

@@ -14,6 +14,9 @@ use crate::image::{Anchor, Assumption, Note, Slot};
 use std::alloc::Global;
 use word_format::{AddressErr, is_aligned, read_addresses};
 
+/// The step from one kind of assumption to the next, among the keys by which assumptions are ordered.
+pub const KIND: u64 = 1 << 32;
+
 /// The greatest count of an anchor.
 const MOST_ARRIVALS: u32 = 64;
 
@@ -248,7 +251,7 @@ fn has_form(version: u32, head: Head) -> bool
 fn key(kind: u32, at: u32) -> u64
     ensures { result ≡ 2 ^ 32 * kind + at }
 {
-    (1 << 32) * u64::from(kind) + u64::from(at)
+    KIND * u64::from(kind) + u64::from(at)
 }
 
 /// The assumption that these numbers and targets are.

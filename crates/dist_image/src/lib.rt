@@ -15,8 +15,9 @@ mod lookup;
 mod reading;
 mod writing;
 
+pub use entry::KIND;
 pub use error::{ImageErr, Table};
 pub use image::{Anchor, Assumption, Image, Note, Slot, empty_image};
-pub use lookup::{anchor_at, prints_at, slot_of};
+pub use lookup::{anchor_at, keyed, lists, prints_at, slot_of};
 pub use reading::read_image;
 pub use writing::write_image;

@@ -5,7 +5,7 @@ use Rattle.std.specs.Map.{lookup}
 use Rattle.std.proofs.lemmas.List.Elements.{recursion_from_All}
 use Rattle.dist_image.specs.Image.{Premise, Cut, Targets, Dead, Code, Within, Span, Same, kind_of}
 use Rattle.fitting.specs.Fits.{IsListed}
-use Rattle.fitting.specs.Fails.{program, pc_at, fetched_at, arch_at, loads_as}
+use Rattle.fitting.specs.Fails.{program, pc_at, fetched_at, arch_at, loads_as, IsLoaded}
 use Rattle.distill_rules.specs.Cuts.{cut_at}
 use Rattle.distill_exact.specs.Laws.{HoldsBefore, IsExact}
 use Rattle.distill_exact.proofs.Exact.{distills_exactly}
@@ -13,7 +13,7 @@ use Rattle.layout_rules.specs.Images.{distilled}
 use Rattle.distill_fits.specs.Laws.{Listed}
 use Rattle.distill_fits.proofs.Laws.{claims_are_listed}
 use Rattle.distill_fits.proofs.Valued.{value_has}
-use Rattle.distill_exact.specs.Images.{IsLoaded, DistilledExactly}
+use Rattle.distill_exact.specs.Images.{DistilledExactly}
 
 pub exactly : DistilledExactly
 exactly calls start n entry f same o words is loaded rare = record {

@@ -4,16 +4,12 @@ use Rattle.cells.specs.Run.{State, is_over}
 use Rattle.dist_image.specs.Image.{Premise, Within, Same, Distilled, kind_of}
 use Rattle.profile_data.specs.Profile.{Tally, Profiled}
 use Rattle.fitting.specs.Fits.{IsListed}
-use Rattle.fitting.specs.Fails.{program, state_at, arch_at, pc_at, fetched_at, loads_as, Fails}
+use Rattle.fitting.specs.Fails.{program, state_at, IsLoaded, Fails}
 use Rattle.profile_laws.specs.Profiles.{with_mark, IsProfileOf}
 use Rattle.distill_exact.specs.Laws.{AreUnchanged, HoldsBefore}
 use Rattle.layout_rules.specs.declared.Options.{Options}
 use Rattle.layout_rules.specs.Images.{distilled}
 use Rattle.distill_fits.specs.Laws.{AreWords}
-
--- at each of the first n positions with its pc a pair's value is what is loaded
-abbrev pub IsLoaded : State → ℕ → ℕ × ℕ → Type 0
-IsLoaded start n e = (i : ℕ) → i < n → pc_at start i ≡ e.0 → loads_as e.1 (fetched_at start i) (arch_at start i) ≡ true
 
 -- What the image lists of single pcs, and Code, fails at no position before n. Where no row is changed, nor does Within: not at
 -- the last of these positions either, where the run has ended after n steps

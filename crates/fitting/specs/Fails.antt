@@ -50,6 +50,10 @@ module _ (start : State) where
   abbrev pub fetched_at : ℕ → Inst
   fetched_at k = meaning (word_at (arch_at k))
 
+  -- at each of the first n positions with its pc a pair's value is what is loaded
+  abbrev pub IsLoaded : ℕ → ℕ × ℕ → Type 0
+  IsLoaded n e = (i : ℕ) → i < n → pc_at i ≡ e.0 → loads_as e.1 (fetched_at i) (arch_at i) ≡ true
+
   -- the latest position before i at which byte a is written is k
   pub record IsLatestWriter (i a k : ℕ) : Type 0 where
     pub before : k < i

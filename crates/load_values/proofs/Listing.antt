@@ -16,13 +16,13 @@ use Rattle.std.proofs.lemmas.Map.Keys.{IsStrictlyIncreasing-from_sorted}
 use Rattle.std.proofs.lemmas.Map.Lookups.{exact_unsigned}
 use Rattle.cells.specs.Cells.{IsPc}
 use Rattle.cells.specs.Run.{State}
-use Rattle.fitting.specs.Fails.{pc_at}
+use Rattle.fitting.specs.Fails.{pc_at, IsLoaded}
 use Rattle.profile_laws.proofs.Listed.{swapped}
 use Rattle.load_values.specs.declared.loads.Found.{Found}
 use Rattle.load_values.specs.declared.loads.Found.TheVariants.{One, Many, Unseen}
 use Rattle.load_values.specs.Values.{IsRow, IsSmall, AreValues, pc_of}
 use Rattle.load_values.specs.Reading.{has_word}
-use Rattle.load_values.specs.Found.{IsValueAt, IsListed, IsLoaded}
+use Rattle.load_values.specs.Found.{IsValueAt, IsListed}
 use Rattle.load_values.specs.Sights.{known_at, weight, executed_count, single, row_of, listed}
 use Rattle.load_values.proofs.Known.{value_is, is_known}
 

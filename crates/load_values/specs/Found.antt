@@ -37,10 +37,6 @@ module _ (start : State) where
     pub stood : (i : ℕ) × (i < n) × (pc_at start i ≡ p)
     pub each : AllGive n p v
 
-  -- at each of the first n positions with its pc a pair's value is what is loaded
-  abbrev pub IsLoaded : ℕ → ℕ × ℕ → Type 0
-  IsLoaded n e = (i : ℕ) → i < n → pc_at start i ≡ e.0 → loads_as e.1 (fetched_at start i) (arch_at start i) ≡ true
-
   -- the pcs at which one of the first n positions executes a load, whichever word it is, in the order of their first ones
   unfoldable pub loading : ℕ → List ℕ
   loading zero = []

@@ -12,7 +12,8 @@ ghost use Rattle.seq_machine.specs.Parts.{start_of};
 ghost use Rattle.profile_laws.specs.Profiles.{steps};
 ghost use Rattle.load_values.specs.declared.error.FindErr.TheVariants.{Wide};
 ghost use Rattle.load_values.specs.Values.{AreValues};
-ghost use Rattle.load_values.specs.Found.{IsListed, IsLoaded, IsWide};
+ghost use Rattle.fitting.specs.Fails.{IsLoaded};
+ghost use Rattle.load_values.specs.Found.{IsListed, IsWide};
 ghost use Rattle.load_values.specs.Sights.{sight_of, known_after, newly};
 ghost use Rattle.load_values.specs.Counted.{AreFew, IsCounted};
 

@@ -2,7 +2,7 @@
 use Rattle.std.proofs.lemmas.List.Elements.{All-nil}
 use Rattle.std.proofs.lemmas.Result.{IfOk-weaker}
 use Rattle.seq_machine.specs.Parts.{start_of}
-use Rattle.distill_exact.specs.Images.{IsLoaded}
+use Rattle.fitting.specs.Fails.{IsLoaded}
 use Rattle.distiller.proofs.distill.Goals as goal
 
 pub returns-clause-holds : goal.returns-clause-holds

@@ -10,7 +10,8 @@ use Rattle.layout_rules.specs.Images.{laid_out, distilled, cuts_of, graph_of, pl
 use Rattle.dist_image.specs.Image.{Distilled, IsImage}
 use Rattle.seq_machine.specs.Parts.{start_of}
 use Rattle.fitting.specs.Fits.{Fits}
-use Rattle.distill_exact.specs.Images.{IsLoaded, ListHolds}
+use Rattle.fitting.specs.Fails.{IsLoaded}
+use Rattle.distill_exact.specs.Images.{ListHolds}
 use Rattle.distiller.specs.Given.{loads}
 use Rattle.distiller.proofs.Loads.{are_loads, all_loads}
 use Rattle.distill_fits.proofs.Laws.{distilled_fits}

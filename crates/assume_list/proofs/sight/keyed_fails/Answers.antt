@@ -1,40 +1,27 @@
--- The search is by the keys, which rise.
-use Rattle.std.proofs.Common.{◌≡◌, map, rules, sym, ap, subst, ◌∙◌, Some, All}
-use Rattle.std.specs.Prelude.{slice_get}
-use Rattle.std.proofs.lemmas.List.Sorted.{answers_always}
-use Rattle.dist_image.specs.declared.image.Assumption.{Assumption}
-use Rattle.dist_image.specs.declared.image.Assumption.TheVariants as assumption
-use Rattle.dist_image.specs.Image.{Distilled, premise, key_of, IsPremise}
+-- What is found under the key is the one that is listed there.
+use Rattle.std.proofs.Common.{◌≡◌, sym, ap, ◌∙◌, Option, Some, None}
+use Rattle.dist_image.specs.Image.{Premise, premise, keyed}
+use Rattle.dist_image.proofs.KeySearch.{listed_is_keyed, keyed_is_premise}
 use Rattle.assumption_laws.specs.Looks.{fails_by}
 use Rattle.assume_list.specs.Sights.{seen}
-use Rattle.assume_list.proofs.Quiet.{keys_of, found_there, not_there}
-use Rattle.assume_list.proofs.Claimed.{premise_at}
 use Rattle.assume_list.proofs.sight.keyed_fails.Goals as goal
 
-pub returns-in-Ok : goal.returns-in-Ok
-returns-in-Ok c = λ k x at is.
-    let xs = c.as_slice-xs.result.now in
-    let same : c.args.image.now.assumptions ≡ map premise xs = sym (ap (map premise) c.as_slice-xs.ensures.value ∙ ap (λ (i : Distilled). i.assumptions) c.image.view_is) in
-    let rise = keys_of c.args.image.now.assumptions xs same c.requires.assumptions_rise in
-    let there = subst (λ ps. slice_get ps k ≡ Some x) same at in
-    c.fails.ensures
-    ∙ ap (λ p. fails_by (seen c.args.sight.now c.args.marks.now) p)
-    (ap premise c.index-xs-place.is
-    ∙ found_there c.index-xs-place.result xs rise c.args.key c.in-Ok.place k x c.in-Ok.ensures.bound
-    (c.in-Ok.ensures.position (λ (a : Assumption). key_of (premise a)) (answers_always _ _ _ (λ f a r g called. search rules))) there is)
+same_one : (x y : Premise) → ◌≡◌ {A = Option Premise} (Some x) (Some y) → x ≡ y
+same_one x y e = cc
 
-pub returns-in-Err : goal.returns-in-Err
-returns-in-Err c = λ k x at is.
-    let xs = c.as_slice-xs.result.now in
-    let same : c.args.image.now.assumptions ≡ map premise xs = sym (ap (map premise) c.as_slice-xs.ensures.value ∙ ap (λ (i : Distilled). i.assumptions) c.image.view_is) in
-    let rise = keys_of c.args.image.now.assumptions xs same c.requires.assumptions_rise in
-    let there = subst (λ ps. slice_get ps k ≡ Some x) same at in
-    absurd (not_there assumption.Code xs rise c.args.key c.in-Err.field-0 k x c.in-Err.ensures.bound
-    (c.in-Err.ensures.position (λ (a : Assumption). key_of (premise a)) (answers_always _ _ _ (λ f a r g called. search rules))) there is)
+none_is_some : (y : Premise) → ◌≡◌ {A = Option Premise} None (Some y) → ⊥
+none_is_some y e = cc
+
+pub returns-in-Some : goal.returns-in-Some
+returns-in-Some c = λ k x at is.
+    let ps = c.args.image.now.assumptions in
+    let listed = ap (λ n. keyed n ps) (sym is) ∙ listed_is_keyed ps c.requires.assumptions_rise k x at in
+    c.fails.ensures ∙ ap (λ p. fails_by (seen c.args.sight.now c.args.marks.now) p) (same_one (premise c.in-Some.x.now) x (c.in-Some.ensures ∙ listed))
+
+pub returns-in-None : goal.returns-in-None
+returns-in-None c = λ k x at is.
+    let ps = c.args.image.now.assumptions in
+    absurd (none_is_some x (c.in-None.ensures ∙ ap (λ n. keyed n ps) (sym is) ∙ listed_is_keyed ps c.requires.assumptions_rise k x at))
 
 pub fails-requires : goal.fails-requires
-fails-requires c =
-    let xs = c.as_slice-xs.result.now in
-    let same : c.args.image.now.assumptions ≡ map premise xs = sym (ap (map premise) c.as_slice-xs.ensures.value ∙ ap (λ (i : Distilled). i.assumptions) c.image.view_is) in
-    subst (λ x. IsPremise (premise x)) (sym c.index-xs-place.is)
-    (premise_at xs (subst (All IsPremise) same c.requires.assumptions) c.in-Ok.place c.index-xs-place.result c.in-Ok.ensures.bound)
+fails-requires c = keyed_is_premise c.args.key c.args.image.now.assumptions c.requires.assumptions (premise c.in-Some.x.now) (sym c.in-Some.ensures)

@@ -3,7 +3,8 @@ use Rattle.std.proofs.Common.{ap, sym, ◌∙◌, arith}
 use Rattle.std.specs.Prelude.{option_and_then}
 use Rattle.std.specs.Option.{option_map}
 use Rattle.fitting.specs.Claims.{as_cut}
-use Rattle.certify.specs.Keys.{keyed, claim}
+use Rattle.dist_image.specs.Image.{keyed}
+use Rattle.certify.specs.Found.{claim}
 use Rattle.certify.proofs.Keys.{cut_found}
 use Rattle.certify.proofs.assumed.cut_at.Goals as goal
 

@@ -1,7 +1,7 @@
 -- By the key of the store.
 use Rattle.std.proofs.Common.{ap, sym, ◌∙◌, ◌+◌, arith}
 use Rattle.std.specs.Prelude.{is_some}
-use Rattle.certify.specs.Keys.{keyed}
+use Rattle.dist_image.specs.Image.{keyed}
 use Rattle.certify.proofs.Keys.{dead_found}
 use Rattle.certify.proofs.assumed.is_dead.Goals as goal
 

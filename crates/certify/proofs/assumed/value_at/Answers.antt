@@ -3,7 +3,8 @@ use Rattle.std.proofs.Common.{ap, sym, ◌∙◌, ◌+◌, arith}
 use Rattle.std.specs.Prelude.{option_and_then}
 use Rattle.std.specs.Option.{option_map}
 use Rattle.fitting.specs.Claims.{as_same}
-use Rattle.certify.specs.Keys.{keyed, claim}
+use Rattle.dist_image.specs.Image.{keyed}
+use Rattle.certify.specs.Found.{claim}
 use Rattle.certify.proofs.Keys.{same_found}
 use Rattle.certify.proofs.assumed.value_at.Goals as goal
 

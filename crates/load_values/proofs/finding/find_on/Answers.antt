@@ -4,7 +4,8 @@ use Rattle.cells.specs.Run.{State}
 use Rattle.seq_machine.specs.States.{state_of}
 use Rattle.profile_laws.specs.Profiles.{steps}
 use Rattle.load_values.specs.Values.{IsSmall, AreValues}
-use Rattle.load_values.specs.Found.{IsListed, IsLoaded}
+use Rattle.fitting.specs.Fails.{IsLoaded}
+use Rattle.load_values.specs.Found.{IsListed}
 use Rattle.load_values.specs.Sights.{executed_count}
 use Rattle.load_values.proofs.Listing.{is_listed, are_values, are_loaded}
 use Rattle.load_values.proofs.finding.find_on.Goals as goal

@@ -1,9 +1,0 @@
--- None of those before is.
-use Rattle.std.proofs.Common.{◌≡◌, drop, map}
-use Rattle.std.specs.List.{list_any}
-use Rattle.dist_image.specs.Image.{premise}
-use Rattle.assume_list.specs.Sights.{is_code}
-use Rattle.assume_list.proofs.sight.lists_code.Given as goal
-
-abbrev pub invariant-loop-x : goal.invariant-loop-x
-invariant-loop-x l = list_any is_code (map premise (drop l.x-index l.xs)) ≡ list_any is_code (map premise l.xs)
