@@ -1,14 +1,16 @@
 //! What no clause says: that a check succeeds where memory is ample. And verdicts on small programs, worked out by hand.
 ghost use Rattle.std.specs.Prelude.{IfOk};
-ghost use Rattle.elf_reader.specs.Executable.{IsProgram};
 ghost use Rattle.dist_image.specs.Image.{IsImage};
 
 use assume_list::{Verdict, check_run};
 use dist_image::{Image, read_image};
-use elf_reader::{Program, read_elf};
 use std::alloc::Global;
 use std::process::Abort;
 use std::test::Fail;
+use test_programs::programs::{
+    COMPARE_LOOP, INPUT_DECIDES, ONE_VALUE, PRINTS_TEN, REWRITES_ITSELF, STORE_FOR_WRITE,
+    TEN_TURNS_LOOP, program,
+};
 
 /// Where each program of these tests begins.
 const BASE: u32 = 0x0001_0000;
@@ -56,35 +58,6 @@ fn push_words(bytes: &mut Vec<u8>, words: &[u32]) -> Result<(), Fail> {
         bytes.extend_from_slice(&word.to_le_bytes())?;
     }
     Ok(())
-}
-
-/// The program of these words, in one part.
-fn program(alloc: Global, words: &[u32]) -> Result<Program, Fail>
-    ensures { IfOk result IsProgram }
-{
-    let size = (words.len() % 1_000) as u32 * 4;
-    let mut file = Vec::new(alloc);
-    push_words(
-        &mut file,
-        &[
-            0x464C_457F,
-            0x0001_0101,
-            0,
-            0,
-            0x00F3_0002,
-            1,
-            BASE,
-            0x34,
-            0,
-            0,
-            0x0020_0034,
-            1,
-            0,
-        ],
-    )?;
-    push_words(&mut file, &[1, 0x54, BASE, BASE, size, size, 5, 4])?;
-    push_words(&mut file, words)?;
-    Ok(read_elf(alloc, &file)?)
 }
 
 /// The image of these tables. It has one slot, and empty masks.
@@ -188,20 +161,6 @@ fn check_cases(
     Ok(())
 }
 
-/// A loop of ten turns with a comparison in it that never holds.
-static NEVER_TRUE: [u32; 10] = [
-    0x00A0_0293,
-    0x0002_A313,
-    0x0003_1863,
-    0xFFF2_8293,
-    0xFE02_9AE3,
-    0x0080_006F,
-    0x0010_0073,
-    0x0000_0513,
-    0x05D0_0893,
-    0x0000_0073,
-];
-
 #[test]
 fn a_branch_that_is_never_taken(rt: HostRuntime) -> Result<(), Fail> {
     let image = listing(
@@ -219,29 +178,10 @@ fn a_branch_that_is_never_taken(rt: HostRuntime) -> Result<(), Fail> {
     check_cases(
         &rt,
         rt.alloc(),
-        &NEVER_TRUE,
+        &COMPARE_LOOP,
         &[to_the_end(image, Verdict::Met(45))],
     )
 }
-
-/// A read of one byte, and a loop of ten turns that ends at once where the byte is not 0.
-static INPUT_DECIDES: [u32; 15] = [
-    0x0000_0513,
-    0x0002_05B7,
-    0x0010_0613,
-    0x03F0_0893,
-    0x0000_0073,
-    0x0005_8303,
-    0x00A0_0293,
-    0x0003_1A63,
-    0xFFF2_8293,
-    0xFE02_9CE3,
-    0x0000_0513,
-    0x0080_006F,
-    0x0050_0513,
-    0x05D0_0893,
-    0x0000_0073,
-];
 
 #[test]
 fn the_input_decides(rt: HostRuntime) -> Result<(), Fail> {
@@ -268,16 +208,6 @@ fn the_input_decides(rt: HostRuntime) -> Result<(), Fail> {
     check_cases(&rt, rt.alloc(), &INPUT_DECIDES, &cases)
 }
 
-/// A loop of ten turns.
-static TEN_TURNS: [u32; 6] = [
-    0x00A0_0293,
-    0xFFF2_8293,
-    0xFE02_9EE3,
-    0x0000_0513,
-    0x05D0_0893,
-    0x0000_0073,
-];
-
 #[test]
 fn budgets_end_a_check(rt: HostRuntime) -> Result<(), Fail> {
     let no_list = listing(16, &[], &[], 0, &[]);
@@ -289,7 +219,7 @@ fn budgets_end_a_check(rt: HostRuntime) -> Result<(), Fail> {
         at_budget(2, cut, Verdict::Met(2)),
         at_budget(3, cut, broken(2, 0)),
     ];
-    check_cases(&rt, rt.alloc(), &TEN_TURNS, &cases)
+    check_cases(&rt, rt.alloc(), &TEN_TURNS_LOOP, &cases)
 }
 
 #[test]
@@ -348,7 +278,7 @@ fn cuts_and_what_is_within(rt: HostRuntime) -> Result<(), Fail> {
             broken(2, 0),
         ),
     ];
-    check_cases(&rt, rt.alloc(), &TEN_TURNS, &cases)
+    check_cases(&rt, rt.alloc(), &TEN_TURNS_LOOP, &cases)
 }
 
 #[test]
@@ -384,7 +314,7 @@ fn tasks_come_to_their_end_in_time(rt: HostRuntime) -> Result<(), Fail> {
         at_budget(1, listing(23, at_first, &[], 1, span), broken(0, 0)),
         at_budget(1, listing(24, at_first, &[], 1, span), Verdict::Met(1)),
     ];
-    check_cases(&rt, rt.alloc(), &TEN_TURNS, &cases)
+    check_cases(&rt, rt.alloc(), &TEN_TURNS_LOOP, &cases)
 }
 
 #[test]
@@ -492,16 +422,6 @@ fn stores_are_dead(rt: HostRuntime) -> Result<(), Fail> {
 #[test]
 fn code_is_not_replaced(rt: HostRuntime) -> Result<(), Fail> {
     // the word at 0x00010010 is replaced by the one at 0x0001001C
-    let words = &[
-        0x0000_0297,
-        0x01C2_A303,
-        0x0062_A823,
-        0x05D0_0893,
-        0x0070_0513,
-        0x0000_0073,
-        0x0000_0000,
-        0x0090_0513,
-    ];
     let code = &[CODE, 0, 0, 0];
     let dead = &[DEAD, 0x1_0008, 0, 0, CODE, 0, 0, 0];
     let cases = [
@@ -511,21 +431,8 @@ fn code_is_not_replaced(rt: HostRuntime) -> Result<(), Fail> {
         to_the_end(listing(16, &[], &[], 2, dead), broken(4, 0)),
         to_the_end(listing(16, &[], &[0x1_0010], 2, dead), broken(4, 0)),
     ];
-    check_cases(&rt, rt.alloc(), words, &cases)
+    check_cases(&rt, rt.alloc(), &REWRITES_ITSELF, &cases)
 }
-
-/// A loop of ten turns that loads the word at 0x00020000, which is 0, at its head.
-static LOADING: [u32; 9] = [
-    0x0002_03B7,
-    0x00A0_0293,
-    0x0003_A303,
-    0x0064_0433,
-    0xFFF2_8293,
-    0xFE02_9AE3,
-    0x0000_0513,
-    0x05D0_0893,
-    0x0000_0073,
-];
 
 #[test]
 fn a_load_has_one_value(rt: HostRuntime) -> Result<(), Fail> {
@@ -544,7 +451,7 @@ fn a_load_has_one_value(rt: HostRuntime) -> Result<(), Fail> {
             Verdict::Met(45),
         ),
     ];
-    check_cases(&rt, rt.alloc(), &LOADING, &cases)?;
+    check_cases(&rt, rt.alloc(), &ONE_VALUE, &cases)?;
     // a byte is extended by its sign, and a load to register 0 loads
     let byte = &[0x0000_0297, 0x0002_8003];
     let cases = [
@@ -594,23 +501,8 @@ fn a_value_is_listed_behind_span(rt: HostRuntime) -> Result<(), Fail> {
             broken(2, 0),
         ),
     ];
-    check_cases(&rt, rt.alloc(), &LOADING, &cases)
+    check_cases(&rt, rt.alloc(), &ONE_VALUE, &cases)
 }
-
-/// Ten turns, each with a write of one byte.
-static TEN_WRITES: [u32; 11] = [
-    0x00A0_0293,
-    0x0010_0513,
-    0x0001_05B7,
-    0x0010_0613,
-    0x0400_0893,
-    0x0000_0073,
-    0xFFF2_8293,
-    0xFE02_94E3,
-    0x0000_0513,
-    0x05D0_0893,
-    0x0000_0073,
-];
 
 /// An image with an anchor at the first word alone, and with Span.
 fn spanned(limit: u32) -> Tables {
@@ -634,7 +526,7 @@ fn a_write_that_a_task_does_is_no_stop(rt: HostRuntime) -> Result<(), Fail> {
         to_the_end(within, Verdict::Met(74)),
         to_the_end(printing(within, &[0x1_0014]), broken(5, 0)),
     ];
-    check_cases(&rt, rt.alloc(), &TEN_WRITES, &cases)
+    check_cases(&rt, rt.alloc(), &PRINTS_TEN, &cases)
 }
 
 #[test]
@@ -645,19 +537,7 @@ fn what_a_task_shows_is_not_dead(rt: HostRuntime) -> Result<(), Fail> {
         to_the_end(dead, Verdict::Met(10)),
         to_the_end(printing(dead, &[0x1_0018]), broken(6, 0)),
     ];
-    let byte = &[
-        0x0002_05B7,
-        0x0410_0293,
-        0x0055_8023,
-        0x0010_0513,
-        0x0010_0613,
-        0x0400_0893,
-        0x0000_0073,
-        0x0000_0513,
-        0x05D0_0893,
-        0x0000_0073,
-    ];
-    check_cases(&rt, rt.alloc(), byte, &shown)?;
+    check_cases(&rt, rt.alloc(), &STORE_FOR_WRITE, &shown)?;
     let most = &[
         0x0002_05B7,
         0x0410_0293,

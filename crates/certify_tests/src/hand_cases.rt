@@ -4,6 +4,7 @@ use crate::making::{Tables, WHOLE, answer, exec, fork, no};
 use certify::Fit;
 use std::alloc::Global;
 use std::test::Fail;
+use test_programs::programs::{EXIT_7, TEN_TURNS_LOOP};
 
 /// An image of the first version without targets.
 fn first<'a>(
@@ -22,16 +23,6 @@ fn first<'a>(
         writes: &[],
     }
 }
-
-/// A loop of ten turns, and the exit.
-static TEN_TURNS: [u32; 6] = [
-    0x00A0_0293,
-    0xFFF2_8293,
-    0xFE02_9EE3,
-    0x0000_0513,
-    0x05D0_0893,
-    0x0000_0073,
-];
 
 /// It says that nothing is live, and lists nothing: the first rule is the first that it breaks.
 #[test]
@@ -56,13 +47,13 @@ fn an_image_that_lists_nothing(rt: HostRuntime) -> Result<(), Fail> {
     ];
     let found = answer(
         rt.alloc(),
-        &TEN_TURNS,
+        &TEN_TURNS_LOOP,
         &first(&slots, &anchors, &notes, &[]),
     )?;
     assert_eq!(rt; found, no(0, 1));
     let found = answer(
         rt.alloc(),
-        &TEN_TURNS,
+        &TEN_TURNS_LOOP,
         &first(&slots, &anchors, &notes, &WHOLE),
     )?;
     assert_eq!(rt; found, no(0x1_0004, 6));
@@ -72,9 +63,9 @@ fn an_image_that_lists_nothing(rt: HostRuntime) -> Result<(), Fail> {
 /// Nothing is noted, so nothing is broken, at the address 0 neither.
 #[test]
 fn an_image_without_notes(rt: HostRuntime) -> Result<(), Fail> {
-    let found = answer(rt.alloc(), &TEN_TURNS, &first(&[], &[], &[], &WHOLE))?;
+    let found = answer(rt.alloc(), &TEN_TURNS_LOOP, &first(&[], &[], &[], &WHOLE))?;
     assert_eq!(rt; found, Fit::Yes);
-    let found = answer(rt.alloc(), &TEN_TURNS, &first(&[], &[], &[], &[]))?;
+    let found = answer(rt.alloc(), &TEN_TURNS_LOOP, &first(&[], &[], &[], &[]))?;
     assert_eq!(rt; found, no(0, 1));
     Ok(())
 }
@@ -86,22 +77,27 @@ fn a_note_at_the_address_0(rt: HostRuntime) -> Result<(), Fail> {
     let done = [exec(0, 0)];
     let lost = [exec(0, 0x13)];
     assert_eq!(rt;
-        answer(rt.alloc(), &TEN_TURNS, &first(&done, &[], &notes, &WHOLE))?,
+        answer(
+            rt.alloc(),
+            &TEN_TURNS_LOOP,
+            &first(&done, &[], &notes, &WHOLE)
+        )?,
         Fit::Yes
     );
     assert_eq!(rt;
-        answer(rt.alloc(), &TEN_TURNS, &first(&lost, &[], &notes, &WHOLE))?,
+        answer(
+            rt.alloc(),
+            &TEN_TURNS_LOOP,
+            &first(&lost, &[], &notes, &WHOLE)
+        )?,
         no(0, 3)
     );
     assert_eq!(rt;
-        answer(rt.alloc(), &TEN_TURNS, &first(&lost, &[], &notes, &[]))?,
+        answer(rt.alloc(), &TEN_TURNS_LOOP, &first(&lost, &[], &notes, &[]))?,
         no(0, 1)
     );
     Ok(())
 }
-
-/// The exit with the status 7.
-static EXIT_7: [u32; 3] = [0x0070_0513, 0x05D0_0893, 0x0000_0073];
 
 /// The second anchor stands behind all notes, or before them.
 #[test]

@@ -1,113 +1,10 @@
 //! The image of a loop, and what becomes of it where a few of its words are changed.
 
-use crate::making::{MAGIC, answer_to_file, no};
+use crate::making::{answer_to_file, no};
 use certify::Fit;
 use std::test::Fail;
-
-/// A loop of ten turns with a comparison in it that is never true.
-static NEVER_TRUE: [u32; 10] = [
-    0x00A0_0293,
-    0x0002_A313,
-    0x0003_1863,
-    0xFFF2_8293,
-    0xFE02_9AE3,
-    0x0080_006F,
-    0x0010_0073,
-    0x0000_0513,
-    0x05D0_0893,
-    0x0000_0073,
-];
-
-/// Its image as a file: the comparison and its branch are passed over, and so are the words at the
-/// end that set what only the call reads.
-static IMAGE: [u32; 86] = [
-    MAGIC,
-    1,
-    64,
-    7,
-    2,
-    9,
-    4, //
-    2,
-    0,
-    0,
-    0,
-    0x1_0000,
-    0x00A0_0293,
-    2,
-    1,
-    0,
-    0,
-    0x1_000C,
-    0xFFF2_8293,
-    0,
-    0x1_0010,
-    0xFE02_9AE3,
-    0,
-    0x1_0014,
-    0x0080_006F,
-    0,
-    0x1_0024,
-    0x0000_0073, //
-    0x1_0000,
-    0,
-    2,
-    0x1_0004,
-    2,
-    2, //
-    0x1_0000,
-    0,
-    0x00,
-    0x00,
-    0x1_0004,
-    2,
-    0x20,
-    0x20,
-    0x1_0008,
-    3,
-    0x60,
-    0x20,
-    0x1_000C,
-    3,
-    0x20,
-    0x20,
-    0x1_0010,
-    4,
-    0x20,
-    0x20,
-    0x1_0014,
-    5,
-    0x00,
-    0x00,
-    0x1_001C,
-    6,
-    0x00,
-    0x00,
-    0x1_0020,
-    6,
-    0x00,
-    0x00,
-    0x1_0024,
-    6,
-    0x00,
-    0x00, //
-    0,
-    0x1_0008,
-    1,
-    0,
-    3,
-    0,
-    0,
-    0,
-    4,
-    0,
-    0,
-    0,
-    5,
-    0,
-    0,
-    0,
-];
+use test_programs::images::COMPARE_NEVER_TRUE;
+use test_programs::programs::COMPARE_LOOP;
 
 /// How many assumptions the file says that there are.
 const COUNT: usize = 6;
@@ -301,16 +198,16 @@ static SEVERAL_RULES: [Case; 8] = [
 
 #[test]
 fn the_image_of_the_loop(rt: HostRuntime) -> Result<(), Fail> {
-    let found = answer_to_file(rt.alloc(), &NEVER_TRUE, &IMAGE, &[])?;
+    let found = answer_to_file(rt.alloc(), &COMPARE_LOOP, &COMPARE_NEVER_TRUE, &[])?;
     assert_eq!(rt; found, Fit::Yes);
     Ok(())
 }
 
 #[test]
 fn a_file_without_its_cut(rt: HostRuntime) -> Result<(), Fail> {
-    let mut file = Vec::from_slice(rt.alloc(), &IMAGE[..CUT])?;
-    file.extend_from_slice(&IMAGE[CODE..])?;
-    let found = answer_to_file(rt.alloc(), &NEVER_TRUE, &file, &[(COUNT, 3)])?;
+    let mut file = Vec::from_slice(rt.alloc(), &COMPARE_NEVER_TRUE[..CUT])?;
+    file.extend_from_slice(&COMPARE_NEVER_TRUE[CODE..])?;
+    let found = answer_to_file(rt.alloc(), &COMPARE_LOOP, &file, &[(COUNT, 3)])?;
     assert_eq!(rt; found, no(0x1_0008, 4));
     Ok(())
 }
@@ -318,7 +215,7 @@ fn a_file_without_its_cut(rt: HostRuntime) -> Result<(), Fail> {
 #[test]
 fn one_rule_is_broken(rt: HostRuntime) -> Result<(), Fail> {
     for &(name, changes, pc, rule) in &ONE_RULE {
-        let found = answer_to_file(rt.alloc(), &NEVER_TRUE, &IMAGE, changes)?;
+        let found = answer_to_file(rt.alloc(), &COMPARE_LOOP, &COMPARE_NEVER_TRUE, changes)?;
         assert_eq!(rt; found, no(pc, rule), "at {name:?}");
     }
     Ok(())
@@ -327,7 +224,7 @@ fn one_rule_is_broken(rt: HostRuntime) -> Result<(), Fail> {
 #[test]
 fn several_rules_are_broken(rt: HostRuntime) -> Result<(), Fail> {
     for &(name, changes, pc, rule) in &SEVERAL_RULES {
-        let found = answer_to_file(rt.alloc(), &NEVER_TRUE, &IMAGE, changes)?;
+        let found = answer_to_file(rt.alloc(), &COMPARE_LOOP, &COMPARE_NEVER_TRUE, changes)?;
         assert_eq!(rt; found, no(pc, rule), "at {name:?}");
     }
     Ok(())

@@ -5,12 +5,9 @@ ghost use Rattle.dist_image.specs.Image.{IsImage};
 
 use certify::{Fit, certify};
 use dist_image::{Image, read_image};
-use elf_reader::{Part, Program};
 use std::alloc::{AllocError, Global};
 use std::test::Fail;
-
-/// The address of the first word of each program.
-const START: u32 = 0x1_0000;
+use test_programs::programs::program;
 
 /// The first word of an image's file.
 pub(crate) const MAGIC: u32 = 0x5053_534D;
@@ -94,23 +91,6 @@ fn file_of(alloc: Global, t: &Tables<'_>) -> Result<Vec<u8>, AllocError> {
     put_assumptions(&mut bytes, t)?;
     put(&mut bytes, t.writes)?;
     Ok(bytes)
-}
-
-/// The program that has these words.
-fn program(alloc: Global, words: &[u32]) -> Result<Program, AllocError> {
-    let mut bytes = Vec::new(alloc);
-    put(&mut bytes, words)?;
-    let mut parts = Vec::new(alloc);
-    parts.push(Part {
-        at: START,
-        bytes,
-        zeros: 0,
-    })?;
-    Ok(Program {
-        entry: START,
-        parts,
-        first_break: START + 0x1000,
-    })
 }
 
 /// The image in a file.

@@ -4,6 +4,7 @@ use crate::making::{Tables, WHOLE, answer, exec, fork, no};
 use certify::Fit;
 use std::alloc::Global;
 use std::test::Fail;
+use test_programs::programs::{HELLO, ONE_VALUE, STORE_FOR_WRITE};
 
 /// The cut of the taken side of the branch at 0x10000.
 const TAKEN: [[u32; 3]; 4] = [[0, 0x1_0000, 1], [3, 0, 0], [4, 0, 0], [5, 0, 0]];
@@ -69,20 +70,6 @@ fn branches_of_which_a_side_is_cut(rt: HostRuntime) -> Result<(), Fail> {
     Ok(())
 }
 
-/// A store of a byte that nothing loads, and a write of it.
-static STORE_FOR_WRITE: [u32; 10] = [
-    0x0002_05B7,
-    0x0410_0293,
-    0x0055_8023,
-    0x0010_0513,
-    0x0010_0613,
-    0x0400_0893,
-    0x0000_0073,
-    0x0000_0513,
-    0x05D0_0893,
-    0x0000_0073,
-];
-
 #[test]
 fn a_store_that_is_passed(rt: HostRuntime) -> Result<(), Fail> {
     let slots = [
@@ -124,19 +111,6 @@ fn a_store_that_is_passed(rt: HostRuntime) -> Result<(), Fail> {
     }
     Ok(())
 }
-
-/// A loop of ten turns that loads the same word in each.
-static ONE_VALUE: [u32; 9] = [
-    0x0002_03B7,
-    0x00A0_0293,
-    0x0003_A303,
-    0x0064_0433,
-    0xFFF2_8293,
-    0xFE02_9AE3,
-    0x0000_0513,
-    0x05D0_0893,
-    0x0000_0073,
-];
 
 /// The answer to its image where this word is done in the load's place, and this is assumed of one
 /// address.
@@ -197,20 +171,6 @@ fn a_load_of_one_value(rt: HostRuntime) -> Result<(), Fail> {
     }
     Ok(())
 }
-
-/// A write of three bytes, and the exit.
-static HELLO: [u32; 10] = [
-    0x0010_0513,
-    0x0000_0597,
-    0x0205_8593,
-    0x0030_0613,
-    0x0400_0893,
-    0x0000_0073,
-    0x0000_0513,
-    0x05D0_0893,
-    0x0000_0073,
-    0x000A_6968,
-];
 
 /// The answer to its image where tasks may print at these addresses, and these registers are live
 /// and needed at the write.

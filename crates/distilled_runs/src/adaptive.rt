@@ -1,7 +1,6 @@
 //! Runs that adapt: an image is made anew of the run so far.
 
 use crate::distilled::text_of;
-use crate::printing::PRINTS_TEN;
 use command_fixtures::outside_world::{SURE, perform};
 use std::alloc::{AllocError, Global};
 use std::test::Fail;

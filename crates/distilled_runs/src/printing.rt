@@ -23,12 +23,6 @@ static WRITES_AT_18: [u32; 39] = [
     0, 1, 0x1000C, 3, 1, 0x10000, 0, 0, 0, 0x10004, 2, 0, 0, 0x1000C, 3, 0, 0, 0x10018,
 ];
 
-/// Prints the byte 0x93 ten times, in a loop, and exits with 0 in its 74th step.
-pub(crate) static PRINTS_TEN: [u32; 11] = [
-    0x00A00293, 0x00100513, 0x000105B7, 0x00100613, 0x04000893, 0x00000073, 0xFFF28293, 0xFE0294E3,
-    0x00000513, 0x05D00893, 0x00000073,
-];
-
 fn replay(alloc: Global, program: &[u32], image: &[u32], events: &str) -> Result<Left, AllocError> {
     let files = Files {
         program: frame(alloc, program)?,

@@ -10,25 +10,13 @@ use test_programs::programs::*;
 /// The word that begins every list of values.
 const MAGIC: u32 = 0x5650534D;
 
-/// A loop of ten turns that loads the same word in each.
-static ONE_VALUE: [u32; 9] = [
-    0x000203B7, 0x00A00293, 0x0003A303, 0x00640433, 0xFFF28293, 0xFE029AE3, 0x00000513, 0x05D00893,
-    0x00000073,
-];
-
-/// Its list of values.
+/// The list of values of [`ONE_VALUE`].
 static ONE_VALUE_ROWS: [u32; 5] = [MAGIC, 1, 1, 0x10008, 0];
 
 /// Four loads, each executed once: of a word to which no one word sets a register, of a byte to register
 /// 0, of a byte with its sign, and of a byte without it.
 static FOUR_LOADS: [u32; 8] = [
     0x00000397, 0x01C3A303, 0x01C38003, 0x01C38303, 0x01D3C303, 0x05D00893, 0x00000073, 0x123456FF,
-];
-
-/// A loop of two turns. In the first it puts another word in the place of its first load.
-static REPLACES_A_LOAD: [u32; 11] = [
-    0x00000397, 0x00200293, 0x0283A303, 0x0243A403, 0x0083A423, 0xFFF28293, 0xFE0298E3, 0x05D00893,
-    0x00000073, 0x00500313, 0x00000007,
 ];
 
 /// Performs a command over a program and the files `m`, `e` and `i`.

@@ -7,8 +7,7 @@ ghost use Rattle.elf_reader.specs.Executable.{IsProgram};
 ghost use Rattle.seq_machine.specs.Parts.{start_of};
 ghost use Rattle.fitting.specs.Fails.{state_at};
 
-use crate::profiler_cases::program;
-use crate::programs::{NEVER_TRUE, anchor};
+use crate::programs::anchor;
 use adapt::Adapter;
 use dist_image::{Assumption, Image, Slot};
 use elf_reader::Program;
@@ -18,16 +17,7 @@ use profiler::{Recorder, profile};
 use seq_machine::{Machine, load};
 use std::alloc::{AllocError, Global};
 use std::test::Fail;
-
-/// Ten turns of a loop of two instructions, and the exit.
-static TEN_TURNS: [u32; 6] = [
-    0x00A0_0293,
-    0xFFF2_8293,
-    0xFE02_9EE3,
-    0x0000_0513,
-    0x05D0_0893,
-    0x0000_0073,
-];
+use test_programs::programs::{COMPARE_LOOP, TEN_TURNS_LOOP, program};
 
 /// A recorder of a program without input, after so many steps or those to the end of its run.
 fn recorded(alloc: Global, p: &Program, steps: u64) -> Result<Recorder, Fail>
@@ -84,7 +74,7 @@ fn next(
 
 #[test]
 fn a_recorder_has_the_profile_of_its_steps(rt: HostRuntime) -> Result<(), Fail> {
-    let program = program(rt.alloc(), &NEVER_TRUE, 40)?;
+    let program = program(rt.alloc(), &COMPARE_LOOP)?;
     for steps in [0, 1, 12, 44, 45] {
         let recorder = recorded(rt.alloc(), &program, steps)?;
         assert_eq!(rt; (recorder.steps(), recorder.ended()), (steps, steps == 45));
@@ -100,7 +90,7 @@ fn a_recorder_has_the_profile_of_its_steps(rt: HostRuntime) -> Result<(), Fail> 
 /// The image of its first five steps: ahead of the tasks only the loop's count is kept, and no turn is the last.
 #[test]
 fn an_image_is_due_after_five_steps(rt: HostRuntime) -> Result<(), Fail> {
-    let program = program(rt.alloc(), &TEN_TURNS, 24)?;
+    let program = program(rt.alloc(), &TEN_TURNS_LOOP)?;
     let mut adapter = Adapter::new(rt.alloc(), &program, Vec::new(rt.alloc()), 5)?;
     let early = next(rt.alloc(), &mut adapter, &program, 4)?.is_some();
     assert_eq!(rt; (early, adapter.due()), (false, 5));
@@ -139,7 +129,7 @@ fn an_image_is_due_after_five_steps(rt: HostRuntime) -> Result<(), Fail> {
 
 #[test]
 fn the_next_is_due_from_the_position_asked(rt: HostRuntime) -> Result<(), Fail> {
-    let program = program(rt.alloc(), &TEN_TURNS, 24)?;
+    let program = program(rt.alloc(), &TEN_TURNS_LOOP)?;
     let mut adapter = Adapter::new(rt.alloc(), &program, Vec::new(rt.alloc()), 5)?;
     let cases = [
         (8, true, 13),
@@ -161,7 +151,7 @@ fn the_next_is_due_from_the_position_asked(rt: HostRuntime) -> Result<(), Fail> 
 fn a_run_gets_too_wide(rt: HostRuntime) -> Result<(), Fail> {
     let mut words = vec![in rt.alloc(); 0x0000_0013_u32; 524_288]?;
     words.push(0x0000_006F)?;
-    let program = program(rt.alloc(), &words, 4 * 524_289)?;
+    let program = program(rt.alloc(), &words)?;
     let mut adapter = Adapter::new(rt.alloc(), &program, Vec::new(rt.alloc()), 3)?;
     let cases = [
         (3, true, 6),

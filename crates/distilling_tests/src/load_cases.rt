@@ -1,21 +1,8 @@
 //! Loads of one value: the runs of small programs, and files.
 
-use crate::profiler_cases::program;
 use load_values::{ValuesErr, find, read_values, write_values};
 use std::test::Fail;
-
-/// A loop of ten turns that loads the same word in each.
-static ONE_VALUE: [u32; 9] = [
-    0x0002_03B7,
-    0x00A0_0293,
-    0x0003_A303,
-    0x0064_0433,
-    0xFFF2_8293,
-    0xFE02_9AE3,
-    0x0000_0513,
-    0x05D0_0893,
-    0x0000_0073,
-];
+use test_programs::programs::{ONE_VALUE, REPLACES_A_LOAD, program};
 
 /// Five loads, each executed once: of a byte with its sign, of the same byte without it, of a word to
 /// which no one word sets a register, of a byte to register 0, and of a byte again.
@@ -31,24 +18,9 @@ static FIVE_LOADS: [u32; 9] = [
     0x1234_56FF,
 ];
 
-/// A loop of two turns. In the first it puts another word in the place of its first load.
-static REPLACED: [u32; 11] = [
-    0x0000_0397,
-    0x0020_0293,
-    0x0283_A303,
-    0x0243_A403,
-    0x0083_A423,
-    0xFFF2_8293,
-    0xFE02_98E3,
-    0x05D0_0893,
-    0x0000_0073,
-    0x0050_0313,
-    0x0000_0007,
-];
-
 #[test]
 fn a_load_in_a_loop(rt: HostRuntime) -> Result<(), Fail> {
-    let p = program(rt.alloc(), &ONE_VALUE, 36)?;
+    let p = program(rt.alloc(), &ONE_VALUE)?;
     let rows = find(rt.alloc(), &p, Vec::new(rt.alloc()), 1_000_000)?;
     assert_eq!(rt; rows.as_slice(), [(0x1_0008, 0)].as_slice());
     let bytes = write_values(rt.alloc(), &rows)?;
@@ -61,7 +33,7 @@ fn a_load_in_a_loop(rt: HostRuntime) -> Result<(), Fail> {
 
 #[test]
 fn signs_and_registers(rt: HostRuntime) -> Result<(), Fail> {
-    let p = program(rt.alloc(), &FIVE_LOADS, 36)?;
+    let p = program(rt.alloc(), &FIVE_LOADS)?;
     let rows = find(rt.alloc(), &p, Vec::new(rt.alloc()), 1_000_000)?;
     let expected = [(0x1_0004, 0xFFFF_FFFF), (0x1_0008, 0xFF), (0x1_0014, 0x56)];
     assert_eq!(rt; rows.as_slice(), expected.as_slice());
@@ -70,7 +42,7 @@ fn signs_and_registers(rt: HostRuntime) -> Result<(), Fail> {
 
 #[test]
 fn another_word_in_the_place_of_a_load(rt: HostRuntime) -> Result<(), Fail> {
-    let p = program(rt.alloc(), &REPLACED, 44)?;
+    let p = program(rt.alloc(), &REPLACES_A_LOAD)?;
     let before = find(rt.alloc(), &p, Vec::new(rt.alloc()), 7)?;
     assert_eq!(rt; before.as_slice(), [(0x1_0008, 7)].as_slice());
     let after = find(rt.alloc(), &p, Vec::new(rt.alloc()), 8)?;

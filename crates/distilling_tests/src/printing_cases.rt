@@ -1,12 +1,11 @@
 //! Images of programs that print, by profiles in which short writes are counted and not.
 
-use crate::programs::{
-    HELLO, HELLO_ROWS, STORE_FOR_WRITE, anchor, bytes_of, options, profile, program,
-};
+use crate::programs::{HELLO_ROWS, anchor, options, profile};
 use dist_image::{Image, Slot, write_image};
 use distiller::distill;
 use std::alloc::Global;
 use std::test::Fail;
+use test_programs::programs::{HELLO, STORE_FOR_WRITE, bytes_of, program};
 
 /// The image of the program that writes three bytes as a file, written out by hand: the call stays,
 /// and the words in front of the exit go.

@@ -1,41 +1,10 @@
 //! Small programs and their profiles, counted by hand from the definitions.
 
-ghost use Rattle.std.specs.Prelude.{IfOk};
-ghost use Rattle.elf_reader.specs.Executable.{IsProgram};
-
-use elf_reader::{Program, read_elf};
 use profile_data::{Profile, Row};
 use profiler::profile;
-use std::alloc::{AllocError, Global};
+use std::alloc::Global;
 use std::test::Fail;
-
-/// The header of a file whose program starts at 0x00010000, and the first half of its program header.
-static HEADER: [u8; 68] = [
-    0x7F, 0x45, 0x4C, 0x46, 0x01, 0x01, 0x01, 0x00, 0x00, 0x00, 0x00, 0x00, 0x00, 0x00, 0x00, 0x00,
-    0x02, 0x00, 0xF3, 0x00, 0x01, 0x00, 0x00, 0x00, 0x00, 0x00, 0x01, 0x00, 0x34, 0x00, 0x00, 0x00,
-    0x00, 0x00, 0x00, 0x00, 0x00, 0x00, 0x00, 0x00, 0x34, 0x00, 0x20, 0x00, 0x01, 0x00, 0x00, 0x00,
-    0x00, 0x00, 0x00, 0x00, 0x01, 0x00, 0x00, 0x00, 0x54, 0x00, 0x00, 0x00, 0x00, 0x00, 0x01, 0x00,
-    0x00, 0x00, 0x01, 0x00,
-];
-
-fn file(alloc: Global, words: &[u32], size: u32) -> Result<Vec<u8>, AllocError> {
-    let mut file = Vec::from_slice(alloc, &HEADER)?;
-    for field in [size, size, 5, 4] {
-        file.extend_from_slice(&u32::to_le_bytes(field))?;
-    }
-    for word in words {
-        file.extend_from_slice(&word.to_le_bytes())?;
-    }
-    Ok(file)
-}
-
-/// The program of these words at 0x00010000, which take so many bytes.
-pub(crate) fn program(alloc: Global, words: &[u32], size: u32) -> Result<Program, Fail>
-    ensures { IfOk result IsProgram }
-{
-    let file = file(alloc, words, size)?;
-    Ok(read_elf(alloc, &file)?)
-}
+use test_programs::programs::{COMPARE_LOOP, REWRITES_ITSELF, program};
 
 /// What a row counts: its address, how often it was executed and taken, and whether it is read and changed.
 type Counts = (u32, u64, u64, bool, bool);
@@ -48,23 +17,9 @@ fn row_counts(profile: &Profile, i: u32) -> Option<Counts> {
     profile.at(i).map(counts)
 }
 
-/// A loop of ten turns with a comparison that never holds.
-static NEVER_TRUE: [u32; 10] = [
-    0x00A0_0293,
-    0x0002_A313,
-    0x0003_1863,
-    0xFFF2_8293,
-    0xFE02_9AE3,
-    0x0080_006F,
-    0x0010_0073,
-    0x0000_0513,
-    0x05D0_0893,
-    0x0000_0073,
-];
-
 #[test]
 fn a_comparison_that_never_holds(rt: HostRuntime) -> Result<(), Fail> {
-    let program = program(rt.alloc(), &NEVER_TRUE, 40)?;
+    let program = program(rt.alloc(), &COMPARE_LOOP)?;
     let profile = profile(
         rt.alloc(),
         &program,
@@ -95,7 +50,7 @@ fn a_comparison_that_never_holds(rt: HostRuntime) -> Result<(), Fail> {
 
 #[test]
 fn the_budget_cuts_a_run(rt: HostRuntime) -> Result<(), Fail> {
-    let program = program(rt.alloc(), &NEVER_TRUE, 40)?;
+    let program = program(rt.alloc(), &COMPARE_LOOP)?;
     let profile = profile(rt.alloc(), &program, Vec::new(rt.alloc()), 3, false)?;
     assert_eq!(rt;
         (profile.steps(), profile.ended(), profile.len()),
@@ -106,17 +61,7 @@ fn the_budget_cuts_a_run(rt: HostRuntime) -> Result<(), Fail> {
 
 #[test]
 fn a_program_rewrites_itself(rt: HostRuntime) -> Result<(), Fail> {
-    let words = [
-        0x0000_0297,
-        0x01C2_A303,
-        0x0062_A823,
-        0x05D0_0893,
-        0x0070_0513,
-        0x0000_0073,
-        0x0000_0000,
-        0x0090_0513,
-    ];
-    let program = program(rt.alloc(), &words, 32)?;
+    let program = program(rt.alloc(), &REWRITES_ITSELF)?;
     let profile = profile(rt.alloc(), &program, Vec::new(rt.alloc()), 1000, false)?;
     assert_eq!(rt;
         (profile.steps(), profile.ended(), profile.len()),
@@ -148,7 +93,7 @@ fn a_read_ends_a_stores_claim(rt: HostRuntime) -> Result<(), Fail> {
         0x0000_0073,
         0x0005_C303,
     ];
-    let program = program(rt.alloc(), &words, 28)?;
+    let program = program(rt.alloc(), &words)?;
     let input = Vec::from_slice(rt.alloc(), &[97])?;
     let profile = profile(rt.alloc(), &program, input, 7, true)?;
     assert_eq!(rt;
@@ -168,7 +113,7 @@ fn a_read_ends_a_stores_claim(rt: HostRuntime) -> Result<(), Fail> {
 #[test]
 fn a_load_to_register_0_loads(rt: HostRuntime) -> Result<(), Fail> {
     let words = [0x0000_0297, 0x0452_A023, 0x0402_C003];
-    let program = program(rt.alloc(), &words, 12)?;
+    let program = program(rt.alloc(), &words)?;
     let profile = profile(rt.alloc(), &program, Vec::new(rt.alloc()), 100, false)?;
     assert_eq!(rt;
         (profile.steps(), profile.ended(), profile.len()),
@@ -195,7 +140,7 @@ fn written(alloc: Global, count: u32, calls: bool) -> Result<[Option<Counts>; 2]
         0x05D0_0893,
         0x0000_0073,
     ];
-    let program = program(alloc, &words, 40)?;
+    let program = program(alloc, &words)?;
     let profile = profile(alloc, &program, Vec::new(alloc), 1_000, calls)?;
     Ok([row_counts(&profile, 2), row_counts(&profile, 6)])
 }

@@ -1,36 +1,18 @@
-//! Programs of a few words, and profiles and images that are made by hand.
+//! Profiles of small programs, made by hand, and parts of images.
 
 ghost use Rattle.std.specs.Prelude.{◌≤◌};
 ghost use Rattle.distiller.specs.Asked.{IsInRange};
 
 use dist_image::Anchor;
 use distiller::Options;
-use elf_reader::{Part, Program};
 use profile_data::{Profile, read_profile};
 use std::alloc::{AllocError, Global};
 use std::test::Fail;
 
-/// The address of the first word of each program.
-const START: u32 = 0x1_0000;
-
 /// A row without targets: its address, its flags, how often it was executed, and how often taken.
 pub(crate) type Counts = (u32, u32, u64, u64);
 
-/// A loop of ten turns with a comparison in it that is never true.
-pub(crate) static NEVER_TRUE: [u32; 10] = [
-    0x00A0_0293,
-    0x0002_A313,
-    0x0003_1863,
-    0xFFF2_8293,
-    0xFE02_9AE3,
-    0x0080_006F,
-    0x0010_0073,
-    0x0000_0513,
-    0x05D0_0893,
-    0x0000_0073,
-];
-
-/// The rows of its run.
+/// The rows of the run of `COMPARE_LOOP`.
 pub(crate) static NEVER_ROWS: [Counts; 9] = [
     (0x1_0000, 0, 1, 0),
     (0x1_0004, 0, 10, 0),
@@ -43,35 +25,7 @@ pub(crate) static NEVER_ROWS: [Counts; 9] = [
     (0x1_0024, 0, 1, 0),
 ];
 
-/// A store of a byte that nothing loads, and a write of it.
-pub(crate) static STORE_FOR_WRITE: [u32; 10] = [
-    0x0002_05B7,
-    0x0410_0293,
-    0x0055_8023,
-    0x0010_0513,
-    0x0010_0613,
-    0x0400_0893,
-    0x0000_0073,
-    0x0000_0513,
-    0x05D0_0893,
-    0x0000_0073,
-];
-
-/// A write of three bytes, and the exit.
-pub(crate) static HELLO: [u32; 10] = [
-    0x0010_0513,
-    0x0000_0597,
-    0x0205_8593,
-    0x0030_0613,
-    0x0400_0893,
-    0x0000_0073,
-    0x0000_0513,
-    0x05D0_0893,
-    0x0000_0073,
-    0x000A_6968,
-];
-
-/// The rows of its run, where short writes are counted.
+/// The rows of the run of `HELLO`, where short writes are counted.
 pub(crate) static HELLO_ROWS: [Counts; 9] = [
     (0x1_0000, 0, 1, 0),
     (0x1_0004, 0, 1, 0),
@@ -83,30 +37,6 @@ pub(crate) static HELLO_ROWS: [Counts; 9] = [
     (0x1_001C, 0, 1, 0),
     (0x1_0020, 0, 1, 0),
 ];
-
-/// The bytes of numbers, the lowest byte of each first.
-pub(crate) fn bytes_of(alloc: Global, numbers: &[u32]) -> Result<Vec<u8>, AllocError> {
-    let mut bytes = Vec::new(alloc);
-    for number in numbers {
-        bytes.extend_from_slice(&number.to_le_bytes())?;
-    }
-    Ok(bytes)
-}
-
-/// The program that has these words.
-pub(crate) fn program(alloc: Global, words: &[u32]) -> Result<Program, AllocError> {
-    let mut parts = Vec::new(alloc);
-    parts.push(Part {
-        at: START,
-        bytes: bytes_of(alloc, words)?,
-        zeros: 0,
-    })?;
-    Ok(Program {
-        entry: START,
-        parts,
-        first_break: START + 0x1000,
-    })
-}
 
 /// The bytes of a row, with its targets.
 fn put_row(bytes: &mut Vec<u8>, row: Counts, targets: &[u32]) -> Result<(), AllocError> {

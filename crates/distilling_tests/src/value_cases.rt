@@ -2,26 +2,14 @@
 
 ghost use Rattle.distiller.specs.Given.{AreGiven};
 
-use crate::programs::{Counts, anchor, options, profile, program};
+use crate::programs::{Counts, anchor, options, profile};
 use dist_image::{Image, Slot};
 use distiller::distill_same;
 use std::alloc::Global;
 use std::test::Fail;
+use test_programs::programs::{ONE_VALUE, program};
 
-/// A loop of ten turns that loads the same word in each.
-static ONE_VALUE: [u32; 9] = [
-    0x0002_03B7,
-    0x00A0_0293,
-    0x0003_A303,
-    0x0064_0433,
-    0xFFF2_8293,
-    0xFE02_9AE3,
-    0x0000_0513,
-    0x05D0_0893,
-    0x0000_0073,
-];
-
-/// The rows of its run.
+/// The rows of the run of `ONE_VALUE`.
 static ONE_VALUE_ROWS: [Counts; 9] = [
     (0x1_0000, 0, 1, 0),
     (0x1_0004, 0, 1, 0),
@@ -34,7 +22,7 @@ static ONE_VALUE_ROWS: [Counts; 9] = [
     (0x1_0020, 0, 1, 0),
 ];
 
-/// Its image where these loads load one value each, and a task takes at most 16,384 steps.
+/// The image of `ONE_VALUE` where these loads load one value each, and a task takes at most 16,384 steps.
 fn image_with(alloc: Global, same: &[(u32, u32)]) -> Result<Image, Fail>
     requires { AreGiven same.now }
 {

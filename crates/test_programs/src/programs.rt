@@ -117,6 +117,24 @@ pub static THREE_HEADERS: [u32; 40] = [
     0x00000000, 0x00000000, 0x00000000, 0x00000006, 0x00000010, 0x00700513, 0x05D00893, 0x00000073,
 ];
 
+/// A loop of ten turns that loads the same word, 0, in each.
+pub static ONE_VALUE: [u32; 9] = [
+    0x000203B7, 0x00A00293, 0x0003A303, 0x00640433, 0xFFF28293, 0xFE029AE3, 0x00000513, 0x05D00893,
+    0x00000073,
+];
+
+/// A loop of two turns. In the first it puts another word in the place of its first load.
+pub static REPLACES_A_LOAD: [u32; 11] = [
+    0x00000397, 0x00200293, 0x0283A303, 0x0243A403, 0x0083A423, 0xFFF28293, 0xFE0298E3, 0x05D00893,
+    0x00000073, 0x00500313, 0x00000007,
+];
+
+/// Prints the byte 0x93 ten times, in a loop, and exits with 0 in its 74th step.
+pub static PRINTS_TEN: [u32; 11] = [
+    0x00A00293, 0x00100513, 0x000105B7, 0x00100613, 0x04000893, 0x00000073, 0xFFF28293, 0xFE0294E3,
+    0x00000513, 0x05D00893, 0x00000073,
+];
+
 /// The bytes of these words, the least first in each.
 pub fn bytes_of(alloc: Global, words: &[u32]) -> Result<Vec<u8>, AllocError> {
     let mut bytes = Vec::new(alloc);
