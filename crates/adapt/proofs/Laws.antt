@@ -24,11 +24,11 @@ use Rattle.adapt.proofs.Made.{wide_tested}
 use Rattle.adapt.proofs.Aligned.{run_pc}
 
 limit_small : (version : ℕ) → limit_of version 4_096 ≤ 4_096
-limit_small version = go (version == 1)
+limit_small version = limit_within (version == 1)
   where
-    go : (b : Bool) → cond b 4_096 (min 4_096 4_096) ≤ 4_096
-    go true = omega arith
-    go false = omega arith
+    limit_within : (b : Bool) → cond b 4_096 (min 4_096 4_096) ≤ 4_096
+    limit_within true = omega arith
+    limit_within false = omega arith
 
 pub distilled_small : (word : ℕ → ℕ) (entry : ℕ) (f : Profiled) → (distilled word entry f [] default_options).limit ≤ 4_096
 unfolding distilled

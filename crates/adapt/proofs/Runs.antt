@@ -17,9 +17,9 @@ module _ (start : State) where
   over_later k (suc d) h = let e : suc (k + d) ≡ k + suc d = omega arith in subst (λ n. is_over (state_at start n) ≡ true) e (over_next (k + d) (over_later k d h))
 
   pub going_before : (k n : ℕ) → k ≤ n → is_over (state_at start n) ≡ false → is_over (state_at start k) ≡ false
-  going_before k n le going = go (is_over (state_at start k)) refl
+  going_before k n le going = not_over_if (is_over (state_at start k)) refl
     where
-      go : (b : Bool) → is_over (state_at start k) ≡ b → b ≡ false
-      go true e =
+      not_over_if : (b : Bool) → is_over (state_at start k) ≡ b → b ≡ false
+      not_over_if true e =
           absurd (both_ways (is_over (state_at start n)) going (let there : k + (n - k) ≡ n = omega arith in subst (λ m. is_over (state_at start m) ≡ true) there (over_later k (n - k) e)))
-      go false e = refl
+      not_over_if false e = refl

@@ -114,8 +114,8 @@ module _ {M : Type 0} {d : Ghosts M} (at : M → ℕ → ℕ) where
 
 -- what has not come so far stands before it
 pub stands_before : (far : ℕ) (m : Model) → has_come far m ≡ false → m.position < far
-stands_before far m not_yet = go (is_over m.committed) not_yet
+stands_before far m not_yet = near_if_over (is_over m.committed) not_yet
   where
-    go : (b : Bool) → (b || nat_le far m.position) ≡ false → m.position < far
-    go false e = leb-false far m.position e
-    go true e = absurd (true≢false e)
+    near_if_over : (b : Bool) → (b || nat_le far m.position) ≡ false → m.position < far
+    near_if_over false e = leb-false far m.position e
+    near_if_over true e = absurd (true≢false e)

@@ -23,20 +23,20 @@ use Rattle.adaptive_driver.specs.Adapted.{plan_of, AreOfOneRun, AreAlike}
 -- an image that an adapter answered took the place of the one before
 pub renewed_so : (a b : Adapting) (slaves : ℕ) (s t : Stage) (answer : Option Distilled) → s.due ≡ a.due → answer ≡ answer_at a s.model.position → b ≡ after a s.model.position
     → t.model ≡ s.model → t.image ≡ unwrap_or answer s.image → t.due ≡ b.due → (first : Distilled) → t ≡ renewed (plan_of a.program a.input slaves a.every first) s
-renewed_so a b slaves s t answer due is next model image then first = go (nat_le a.due s.model.position) refl
+renewed_so a b slaves s t answer due is next model image then first = renewed_if_due (nat_le a.due s.model.position) refl
   where
     made_at : Option Distilled
     made_at = made a.program (start_of a.program a.input) s.model.position
 
-    go : (c : Bool) → nat_le a.due s.model.position ≡ c → t ≡ renewed (plan_of a.program a.input slaves a.every first) s
-    go true e =
+    renewed_if_due : (c : Bool) → nat_le a.due s.model.position ≡ c → t ≡ renewed (plan_of a.program a.input slaves a.every first) s
+    renewed_if_due true e =
         let test : nat_le s.due s.model.position ≡ true = ap (λ n. nat_le n s.model.position) due ∙ e in
         let answered : answer ≡ made_at = is ∙ ap (λ c. cond c made_at None) e in
         let later : b.due ≡ s.model.position + a.every = ap (λ (x : Adapting). x.due) next ∙ ap (λ c. (cond c (record a { due = s.model.position + a.every; asked = s.model.position }) a).due) e in
         let new : Stage = record { model = s.model; image = unwrap_or made_at s.image; due = s.model.position + a.every } in
         let same : t ≡ new = (λ i. record { model = model i; image = (image ∙ ap (λ o. unwrap_or o s.image) answered) i; due = (then ∙ later) i }) in
         same ∙ ap (λ c. cond c new s) (sym test)
-    go false e =
+    renewed_if_due false e =
         let test : nat_le s.due s.model.position ≡ false = ap (λ n. nat_le n s.model.position) due ∙ e in
         let answered : answer ≡ None = is ∙ ap (λ c. cond c made_at None) e in
         let kept : b.due ≡ s.due = ap (λ (x : Adapting). x.due) next ∙ ap (λ c. (cond c (record a { due = s.model.position + a.every; asked = s.model.position }) a).due) e ∙ sym due in
@@ -46,18 +46,18 @@ renewed_so a b slaves s t answer due is next model image then first = go (nat_le
 
 -- an adapter that was asked is of the same run
 pub asked_alike : (a b : Adapting) (position : ℕ) → b ≡ after a position → AreAlike b a
-asked_alike a b position next = go (nat_le a.due position) next
+asked_alike a b position next = after_if_due (nat_le a.due position) next
   where
-    go : (c : Bool) → b ≡ cond c (record a { due = position + a.every; asked = position }) a → AreAlike b a
-    go true e = (ap (λ (x : Adapting). x.program) e, ap (λ (x : Adapting). x.input) e, ap (λ (x : Adapting). x.every) e)
-    go false e = (ap (λ (x : Adapting). x.program) e, ap (λ (x : Adapting). x.input) e, ap (λ (x : Adapting). x.every) e)
+    after_if_due : (c : Bool) → b ≡ cond c (record a { due = position + a.every; asked = position }) a → AreAlike b a
+    after_if_due true e = (ap (λ (x : Adapting). x.program) e, ap (λ (x : Adapting). x.input) e, ap (λ (x : Adapting). x.every) e)
+    after_if_due false e = (ap (λ (x : Adapting). x.program) e, ap (λ (x : Adapting). x.input) e, ap (λ (x : Adapting). x.every) e)
 
 pub asked_within : (a b : Adapting) (position : ℕ) → b ≡ after a position → a.asked ≤ position → b.asked ≤ position
-asked_within a b position next l = go (nat_le a.due position) next
+asked_within a b position next l = stays_if_early (nat_le a.due position) next
   where
-    go : (c : Bool) → b ≡ cond c (record a { due = position + a.every; asked = position }) a → b.asked ≤ position
-    go true e = let same : b.asked ≡ position = ap (λ (x : Adapting). x.asked) e in omega (arith, same)
-    go false e = let same : b.asked ≡ a.asked = ap (λ (x : Adapting). x.asked) e in omega (arith, same, l)
+    stays_if_early : (c : Bool) → b ≡ cond c (record a { due = position + a.every; asked = position }) a → b.asked ≤ position
+    stays_if_early true e = let same : b.asked ≡ position = ap (λ (x : Adapting). x.asked) e in omega (arith, same)
+    stays_if_early false e = let same : b.asked ≡ a.asked = ap (λ (x : Adapting). x.asked) e in omega (arith, same, l)
 
 pub serial_so : (m : Mode) → not (is_speculating m) ≡ true → IsSerial m
 serial_so (Serial debt) e = tt
