@@ -89,15 +89,15 @@ pub number-if-between : (table : List (List ℕ × Kind)) (option : List ℕ) (l
     → ((v : List ℕ) → takes table option v ≡ true → is_some (number_within least most v) ≡ true)
     → (words : List (List ℕ)) → are_options table words ≡ true → IfSome (number_if_given option words) (λ n. (least ≤ n) × (n ≤ most))
 unfolding number_if_given
-number-if-between table option least most numbers words h = go (value_of option words) (takes-given table option words h)
+number-if-between table option least most numbers words h = bounded_if_given (value_of option words) (takes-given table option words h)
   where
     between : (n : Option ℕ) → is_some (option_and_then (within least most) n) ≡ true → IfSome n (λ m. (least ≤ m) × (m ≤ most))
     between None e = tt
     between (Some n) e = (grind (arith, nat_tests), grind (arith, nat_tests))
 
-    go : (o : Option (List ℕ)) → IfSome o (λ v. takes table option v ≡ true) → IfSome (option_and_then number_of o) (λ n. (least ≤ n) × (n ≤ most))
-    go None given = tt
-    go (Some v) given = between (number_of v) (numbers v given)
+    bounded_if_given : (o : Option (List ℕ)) → IfSome o (λ v. takes table option v ≡ true) → IfSome (option_and_then number_of o) (λ n. (least ≤ n) × (n ≤ most))
+    bounded_if_given None given = tt
+    bounded_if_given (Some v) given = between (number_of v) (numbers v given)
 
 -- `--adapt` is a number from 1 to 10^9
 pub adapt-between : (words : List (List ℕ)) → are_options run_options words ≡ true → IfSome (number_if_given (codes "--adapt") words) (λ n. (1 ≤ n) × (n ≤ 10 ^ 9))
