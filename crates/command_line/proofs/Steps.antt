@@ -4,7 +4,7 @@ use Rattle.std.specs.List.{list_any}
 use Rattle.std.specs.Cmp.Lexicographic.{same_text}
 use Rattle.std.proofs.lemmas.Bool.Decides.{nat_tests}
 use Rattle.command_line.specs.declared.options.Kind.{Kind}
-use Rattle.command_line.specs.Number.{number_of, within, number_within}
+use Rattle.decimal_words.specs.Number.{number_of, within, number_within}
 use Rattle.command_line.specs.Options.{same, takes, value_of, number_or, number_if_given, may_precede, are_options, IsNumberIfGiven}
 use Rattle.command_line.specs.Command.{run_options, replay_options, check_options, profile_options, distill_options}
 

@@ -9,7 +9,7 @@ use Rattle.command_line.specs.declared.commands.Distill.{Distill as ReadDistillC
 use Rattle.command_line.specs.declared.commands.Trial.{Trial as ReadTrialCommand}
 use Rattle.command_line.specs.declared.options.Kind.{Kind}
 use Rattle.command_line.specs.declared.options.Kind.TheVariants.{File, Number}
-use Rattle.command_line.specs.Number.{number_within}
+use Rattle.decimal_words.specs.Number.{number_within}
 use Rattle.command_line.specs.Options.{same, is_name, value_of, number_or, number_if_given, are_options}
 
 -- `run PROG`: the name of the program, the names of the image, of the input and of the report, if there are such, the number of slaves and the number of steps,

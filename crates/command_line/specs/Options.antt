@@ -5,7 +5,7 @@ use Rattle.std.specs.List.{list_any}
 use Rattle.command_line.specs.declared.options.Kind.{Kind}
 use Rattle.command_line.specs.declared.options.Kind.TheVariants.{File, Number}
 use Rattle.command_line.specs.declared.options.Rule.{Rule}
-use Rattle.command_line.specs.Number.{number_of, number_within}
+use Rattle.decimal_words.specs.Number.{number_of, number_within}
 
 -- whether two words are the same
 abbrev pub same : List ℕ → List ℕ → Bool

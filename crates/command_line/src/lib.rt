@@ -6,12 +6,9 @@ ghost use Rattle.command_line.specs.Command.{command_of, show_of, certify_of, sh
 
 mod commands;
 mod distill_words;
-mod number;
 mod options;
 mod replay_words;
 mod run_words;
-#[cfg(test)]
-mod tests;
 mod trial_words;
 mod walk_words;
 

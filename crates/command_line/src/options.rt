@@ -1,8 +1,9 @@
 //! Options of a command: pairs of words, an option and its value.
-ghost use Rattle.std.specs.Prelude.{◌≡◌, map, string_bytes, option_copied};
+ghost use Rattle.std.specs.Prelude.{◌≡◌, ◌-◌, ◌^◌, map, string_bytes, option_copied};
+ghost use Rattle.decimal_words.specs.Number.{number_within};
 ghost use Rattle.command_line.specs.Options.{shown_rule, is_value, is_line_for, takes, value_of, number_or, number_if_given, IsNumberIfGiven, may_precede, are_options};
 
-use crate::number::read_number;
+use decimal_words::number_within;
 
 /// What the value of an option is.
 #[derive(Clone, Copy)]
@@ -25,9 +26,7 @@ fn is_value(kind: Kind, word: &str) -> bool
 {
     match kind {
         Kind::File => !word.is_empty(),
-        Kind::Number { least, most } => {
-            read_number(word).is_some_and(|n| least <= n && n <= most)
-        }
+        Kind::Number { least, most } => { number_within(least, most, word.as_bytes()).is_some() }
     }
 }
 
@@ -59,6 +58,13 @@ pub(crate) fn value_of<'a>(words: &'a [String], option: &str) -> Option<&'a str>
         rest = after;
     }
     None
+}
+
+/// The number that the word writes, if it has at most 64 bits.
+fn read_number(word: &str) -> Option<u64>
+    ensures { result ≡ number_within 0 (2 ^ 64 - 1) word.now }
+{
+    number_within(0, u64::MAX, word.as_bytes())
 }
 
 /// The number that the words give the option, or the default.

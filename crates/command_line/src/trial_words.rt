@@ -1,10 +1,10 @@
 //! The words of `trial`: two numbers.
 ghost use Rattle.std.specs.Prelude.{◌≡◌, ◌≤◌, ◌^◌, map, option_map, string_bytes};
-ghost use Rattle.command_line.specs.Number.{number_within};
+ghost use Rattle.decimal_words.specs.Number.{number_within};
 ghost use Rattle.command_line.specs.Command.{Trial as ShownTrial, trial_of, shown};
 
 use crate::commands::{Command, Trial};
-use crate::number::read_number;
+use decimal_words::number_within;
 
 /// The greatest number that a program is drawn from.
 const MOST_SEED: u64 = 1_000_000_000_000;
@@ -16,10 +16,7 @@ const MOST_SIZE: u64 = 10_000;
 fn read_within(word: &str, least: u64, most: u64) -> Option<u64>
     ensures { result ≡ number_within least most word.now }
 {
-    match read_number(word) {
-        Some(n) if least <= n && n <= most => Some(n),
-        _ => None,
-    }
+    number_within(least, most, word.as_bytes())
 }
 
 /// What the words after `trial` ask for.

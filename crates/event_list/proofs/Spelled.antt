@@ -1,12 +1,10 @@
 -- A line that is read is the line that is spelled, and what is spelled is read.
-use Rattle.std.proofs.Common.{◌≡◌, ℕ, ◌+◌, ◌-◌, ◌*◌, ◌^◌, ◌<◌, ◌≤◌, Bool, true, false, cond, not, ◌&&◌, ◌||◌, leb, eqb, List, [], ◌∷◌, ◌++◌, length, take, drop, drop-cons, add-one, fold, get_or, Option, Some, None, refl, sym, ap, ◌∙◌, subst, arith, rules, ◌⊎◌, inl, inr}
-use Rattle.std.proofs.lemmas.Bool.{le-leb, leb-true, eqb-true}
+use Rattle.std.proofs.Common.{◌≡◌, ℕ, ◌+◌, ◌<◌, Bool, true, false, cond, ◌&&◌, eqb, List, [], ◌∷◌, ◌++◌, length, take, drop, drop-cons, add-one, get_or, Option, Some, None, refl, sym, ap, ◌∙◌, subst, arith}
+use Rattle.std.proofs.lemmas.Bool.{eqb-true}
 use Rattle.std.proofs.lemmas.Bool.Decides.{nat_tests}
-use Rattle.std.proofs.lemmas.Str.Parse.{IsNumeralModel, numerals_by_fold}
-use Rattle.std.proofs.lemmas.Fmt.{digits_decimal, digits_value-decimal, decimal-digits_value, decimal_nonempty, first_decimal, decimal_digit}
+use Rattle.std.proofs.lemmas.Fmt.{decimal_nonempty}
 use Rattle.std.specs.Fmt.{decimal}
 use Rattle.std.specs.Str.{all_ascii_digits}
-use Rattle.std.proofs.lemmas.Bool.{cases_lt}
 use Rattle.std.proofs.lemmas.List.{take-append-drop, length-drop}
 use Rattle.std.proofs.Math.Seq.{take-append_seam, drop-append-add}
 use Rattle.std.specs.Cmp.Lexicographic.{same_text}
@@ -21,57 +19,13 @@ use Rattle.event_list.specs.declared.form.Form.TheVariants.{NoEvent, Repeated, U
 use Rattle.event_list.specs.Form.{same, slave_of, event_of, repeated, form_from, form_of}
 use Rattle.event_list.specs.Reading.{IsEvent, IsRepeated}
 use Rattle.event_list.specs.Spelling.{text_of, spelling, is_silent}
-use Rattle.event_list.specs.Number.{is_numeral, decimal_value, number_within}
-
-numerals : IsNumeralModel (λ ds. all_ascii_digits ds ≡ true) decimal_value
-numerals = numerals_by_fold _ (search rules) (λ n ds. fold (λ n c. n * 10 + (c - 48)) n ds) (search rules)
+use Rattle.decimal_words.specs.Number.{number_within}
+use Rattle.decimal_words.proofs.Numerals.{decimal_digits, number_takes, number_again}
 
 both : (a b : Bool) → a && b ≡ true → (a ≡ true) × (b ≡ true)
 both true true e = (refl, refl)
 both true false e = absurd cc
 both false b e = absurd cc
-
-chosen : {A : Type 0} (b : Bool) (x y : A) → cond b (Some x) None ≡ Some y → (b ≡ true) × (x ≡ y)
-chosen true x y e = (refl, cc)
-chosen false x y e = absurd cc
-
--- a numeral is digits, and only `0` alone begins with a zero
-numeral_parts : (text : List ℕ) → is_numeral text ≡ true → (all_ascii_digits text ≡ true) × (0 < length text) × (get_or text 0 0 ≡ 48 → length text ≡ 1)
-numeral_parts [] e = absurd cc
-numeral_parts (c ∷ more) e = let p = both (all_ascii_digits (c ∷ more)) (not (eqb c 48) || eqb (length more) 0) e in (p.0, omega arith, λ zero. grind (arith, nat_tests, p.1))
-
-pub number_takes : (least most : ℕ) (text : List ℕ) (n : ℕ) → most < 2 ^ 64 → number_within least most text ≡ Some n → (text ≡ decimal n) × (least ≤ n) × (n ≤ most)
-number_takes least most text n few e =
-    let c = chosen (is_numeral text && leb least (decimal_value text) && leb (decimal_value text) most) (decimal_value text) n e in
-    let p = both (is_numeral text && leb least (decimal_value text)) (leb (decimal_value text) most) c.0 in
-    let q = both (is_numeral text) (leb least (decimal_value text)) p.0 in
-    let parts = numeral_parts text q.0 in
-    let low : least ≤ n = omega (arith, leb-true _ _ q.1, c.1) in
-    let high : n ≤ most = omega (arith, leb-true _ _ p.1, c.1) in
-    (sym (decimal-digits_value numerals text parts.0 parts.1 parts.2 (omega (arith, c.1))) ∙ ap decimal c.1, low, high)
-
-is_numeral_from : (text : List ℕ) → all_ascii_digits text ≡ true → 0 < length text → (48 < get_or text 0 0) ⊎ (length text ≡ 1) → is_numeral text ≡ true
-is_numeral_from [] digits some first = absurd (omega arith)
-is_numeral_from (c ∷ more) digits some (inl above) = rw digits (grind (arith, nat_tests))
-is_numeral_from (c ∷ more) digits some (inr one) = rw digits (grind (arith, nat_tests))
-
-decimal_digits : (n : ℕ) → n < 2 ^ 64 → all_ascii_digits (decimal n) ≡ true
-decimal_digits n few = digits_decimal numerals n few
-
-decimal_numeral : (n : ℕ) → n < 2 ^ 64 → is_numeral (decimal n) ≡ true
-decimal_numeral n few = is_numeral_from (decimal n) (decimal_digits n few) (decimal_nonempty n few) (first (cases_lt 0 n))
-  where
-    first : (0 < n) ⊎ (n ≤ 0) → (48 < get_or (decimal n) 0 0) ⊎ (length (decimal n) ≡ 1)
-    first (inl some) = inl (first_decimal n some few)
-    first (inr none) = inr (ap length (decimal_digit n (omega arith)))
-
-pub number_again : (least most n : ℕ) → most < 2 ^ 64 → least ≤ n → n ≤ most → number_within least most (decimal n) ≡ Some n
-number_again least most n few low high =
-    let v : decimal_value (decimal n) ≡ n = digits_value-decimal numerals n (omega arith) in
-    let is : is_numeral (decimal n) ≡ true = decimal_numeral n (omega arith) in
-    let above : leb least n ≡ true = le-leb _ _ low in
-    let below : leb n most ≡ true = le-leb _ _ high in
-    rw (is, v, above, below) refl
 
 -- ---- events
 

@@ -7,7 +7,7 @@ use Rattle.speculation.specs.declared.Event.{Event}
 use Rattle.speculation.specs.declared.Event.TheVariants.{Master, Slave, Commit, Serial, Restart}
 use Rattle.event_list.specs.declared.form.Form.{Form}
 use Rattle.event_list.specs.declared.form.Form.TheVariants.{NoEvent, Repeated, Unknown}
-use Rattle.event_list.specs.Number.{number_within}
+use Rattle.decimal_words.specs.Number.{number_within}
 
 -- whether two texts are the same
 abbrev pub same : List ℕ → List ℕ → Bool

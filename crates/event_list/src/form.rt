@@ -3,15 +3,15 @@
 ghost use Rattle.std.specs.Prelude.{◌≡◌};
 ghost use Rattle.event_list.specs.Form as spec;
 
-use crate::number::number_within;
 use crate::split::split_at_byte;
+use decimal_words::number_within;
 use speculation::Event;
 
 /// How many events a list has at most, repeats counted.
-pub(crate) const MOST: u32 = 100_000_000;
+pub(crate) const MOST: u64 = 100_000_000;
 
 /// The greatest number of a slave.
-const LAST_SLAVE: u32 = 63;
+const LAST_SLAVE: u64 = 63;
 
 /// The forms of a line.
 #[derive(Clone, Copy, Debug, PartialEq, Eq)]
@@ -42,7 +42,8 @@ fn repeated(line: &[u8]) -> Option<(u32, Event)>
     ensures { result ≡ spec.repeated line.now }
 {
     let (count, event) = split_at_byte(b' ', line)?;
-    Some((number_within(1, MOST, count)?, event_of(event)?))
+    let count = number_within(1, MOST, count)?;
+    Some((count as u32, event_of(event)?))
 }
 
 /// The event that a text names.

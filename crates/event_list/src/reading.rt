@@ -58,7 +58,7 @@ fn list_in(alloc: Global, bytes: &[u8]) -> Result<Vec<(u32, Event)>, EventErr>
             Form::Unknown => return Err(EventErr::Line(number)),
             Form::Repeated(count, event) => {
                 sum += u64::from(count);
-                if sum > u64::from(MOST) {
+                if sum > MOST {
                     return Err(EventErr::TooMany(number));
                 }
                 events.push((count, event))?;

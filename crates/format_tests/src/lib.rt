@@ -1,7 +1,9 @@
-//! Executables, profiles and lists of events read and written, and their refusals; stores and sinks in memory: tests of
-//! `elf_reader`, `profile_data`, `event_list` and `outside`.
+//! Executables, profiles, lists of events and decimal numbers read and written, and their refusals; stores and sinks in memory:
+//! tests of `elf_reader`, `profile_data`, `event_list`, `decimal_words` and `outside`.
 #![tactic(auto)]
 
+#[cfg(test)]
+mod decimal_words_cases;
 #[cfg(test)]
 mod elf_reader_cases;
 #[cfg(test)]

@@ -1,6 +1,6 @@
-//! What no clause says of the one private function that has edges of its own: numbers, as words of a command line.
+//! Words that are numbers, and words that are nearly so.
 
-use crate::number::read_number;
+use decimal_words::number_within;
 use std::test::Fail;
 
 static NUMBERS: [(&str, Option<u64>); 23] = [
@@ -32,6 +32,10 @@ static NUMBERS: [(&str, Option<u64>); 23] = [
 #[test]
 fn reads_numbers(rt: HostRuntime) {
     for &(word, want) in &NUMBERS {
-        assert_eq!(rt; read_number(word), want, "at {word:?}");
+        assert_eq!(rt;
+            number_within(0, u64::MAX, word.as_bytes()),
+            want,
+            "at {word:?}"
+        );
     }
 }
