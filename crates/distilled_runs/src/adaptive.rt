@@ -6,9 +6,8 @@ use std::alloc::{AllocError, Global};
 use std::test::Fail;
 use test_programs::programs::*;
 
-/// A run that adapts, and what it comes to.
+/// The options of a run that adapts, and what it comes to.
 struct Case {
-    program: &'static [u32],
     /// After how many steps an image is due, the number of slaves, and the budget.
     options: [&'static str; 3],
     status: u8,
@@ -16,51 +15,44 @@ struct Case {
     report: [&'static str; 6],
 }
 
+// One for each program of the test, in its order.
 static CASES: [Case; 8] = [
     Case {
-        program: &TEN_TURNS_LOOP,
         options: ["5", "4", "1000"],
         status: 0,
         report: ["position 24", "tasks 1", "by-tasks 18", "serial 6", "end exit 0", "output 0"],
     },
     Case {
-        program: &TEN_TURNS_LOOP,
         options: ["1", "4", "1000"],
         status: 0,
         report: ["position 24", "tasks 1", "by-tasks 18", "serial 6", "end exit 0", "output 0"],
     },
     Case {
-        program: &EXIT_7,
         options: ["1", "4", "1000"],
         status: 7,
         report: ["position 3", "tasks 0", "by-tasks 0", "serial 3", "end exit 7", "output 0"],
     },
     Case {
-        program: &COMPARE_LOOP,
         options: ["7", "4", "1000"],
         status: 0,
         report: ["position 45", "tasks 1", "by-tasks 35", "serial 10", "end exit 0", "output 0"],
     },
     Case {
-        program: &COUNT_WITHOUT_END,
         options: ["50", "4", "500"],
         status: 120,
         report: ["position 565", "tasks 2", "by-tasks 512", "serial 53", "end none", "output 0"],
     },
     Case {
-        program: &COUNT_WITHOUT_END,
         options: ["50", "1", "500"],
         status: 120,
         report: ["position 565", "tasks 2", "by-tasks 512", "serial 53", "end none", "output 0"],
     },
     Case {
-        program: &PRINTS_TEN,
         options: ["20", "4", "1000"],
         status: 0,
         report: ["position 74", "tasks 1", "by-tasks 53", "serial 21", "end exit 0", "output 10"],
     },
     Case {
-        program: &REWRITES_ITSELF,
         options: ["2", "4", "1000"],
         status: 9,
         report: ["position 6", "tasks 0", "by-tasks 0", "serial 6", "end exit 9", "output 0"],
@@ -88,12 +80,22 @@ fn report_of(alloc: Global, lines: &[&str; 6]) -> Result<Vec<u8>, AllocError> {
 #[test]
 fn an_image_is_made_of_the_run_so_far(rt: HostRuntime) -> Result<(), Fail> {
     let alloc = rt.alloc();
-    for case in &CASES {
+    let programs: [&[u32]; 8] = [
+        &TEN_TURNS_LOOP,
+        &TEN_TURNS_LOOP,
+        &EXIT_7,
+        &COMPARE_LOOP,
+        &COUNT_WITHOUT_END,
+        &COUNT_WITHOUT_END,
+        &PRINTS_TEN,
+        &REWRITES_ITSELF,
+    ];
+    for (program, case) in programs.iter().zip(&CASES) {
         let [every, slaves, budget] = case.options;
         let words = [
             "run", "p", "--adapt", every, "--slaves", slaves, "--budget", budget, "--report", "r",
         ];
-        let program = frame(alloc, case.program)?;
+        let program = frame(alloc, program)?;
         let left = perform(alloc, &words, program, Vec::new(alloc), SURE)?;
         let want = report_of(alloc, &case.report)?;
         assert_eq!(rt; left.report.as_slice(), want.as_slice());

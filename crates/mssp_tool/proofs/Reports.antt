@@ -136,9 +136,9 @@ module _ (r : RunCommand) (name : List ℕ) (jm : Distilled) (told told' left : 
             (subst (λ (x : State × Executable). Speculated (world x.0 jm r.slaves) (models_from r.adapt r x.1 x.0 jm) r.budget name (record { told = told; before = before; now = now; failed = last }) left out a) (λ k. (is k, same k)) (first_told e s h)),
       )
 
-  pub reported_changes : {s : State} {e : Executable} → Reported e s jm r name (record { told = told'; before = mid; now = now; failed = last }) left out a → OnlyChanges told left r.report
-  reported_changes (inl (m, nothing, stays)) = unchanged told left r.report (stays ∙ same_files)
-  reported_changes {s} {e} (inr h) =
+  pub reported_changes : (s : State) (e : Executable) → Reported e s jm r name (record { told = told'; before = mid; now = now; failed = last }) left out a → OnlyChanges told left r.report
+  reported_changes s e (inl (m, nothing, stays)) = unchanged told left r.report (stays ∙ same_files)
+  reported_changes s e (inr h) =
       let here = first_told e s h in
       subst (λ (o : Option (List ℕ)). OnlyChanges told left o) (sym named)
       (stopped_changes (models_from r.adapt r e s jm here.0) name (record { told = told; before = before; now = now; failed = last }) left out a here.2)
