@@ -95,16 +95,20 @@ fn run_steady<S: Store, O: Sink, M: Memory>(
 }
 
 // An adapter of the run of what is ready, for an image every so many steps.
-fn adapter_of<M: Memory>(alloc: Global, ready: &Prepared<M>, every: u64) -> Result<Adapter, AllocError>
+fn adapter_of<M: Memory>(
+    alloc: Global,
+    ready: &Prepared<M>,
+    every: u64,
+) -> Result<Adapter, AllocError>
     requires program { IsProgram ready.now.program }
     requires some { 1 ≤ every }
     requires most { every ≤ 10 ^ 9 }
     ensures { IfOk result (λ a. a ≡ record {
-        program = ready.now.program;
-        input = ready.now.machine.input.items;
-        every = every;
-        due = every;
-        asked = 0;
+      program = ready.now.program;
+      input = ready.now.machine.input.items;
+      every = every;
+      due = every;
+      asked = 0;
     }) }
 {
     let input = ready.machine.input.clone()?;
