@@ -65,31 +65,66 @@ fn reads_commands(rt: HostRuntime) -> Result<(), Fail> {
             report: None,
             slaves: 4,
             budget,
+            adapt: None,
         };
         assert!(rt; is_run(rt.alloc(), texts, &want)?, "at {texts:?}");
     }
     Ok(())
 }
 
-static READS_RUNS_WITH_A_REPORT_CASES: [(&[&str], Option<&str>, Option<&str>, u8); 6] = [
-    (&["--report", "r"], None, Some("r"), 4),
-    (&["--slaves", "64"], None, None, 64),
-    (&["--slaves", "1", "--report", "r"], None, Some("r"), 1),
-    (&["--image", "i", "--report", "r"], Some("i"), Some("r"), 4),
-    (&["--report", "r", "--image", "r"], Some("r"), Some("r"), 4),
-    (
-        &[
-            "--report", "--image", "--image", "--report", "--slaves", "9",
-        ],
-        Some("--report"),
-        Some("--image"),
-        9,
-    ),
-];
+static READS_RUNS_WITH_A_REPORT_CASES: [(&[&str], Option<&str>, Option<&str>, u8, Option<u64>); 8] =
+    [
+        (&["--report", "r"], None, Some("r"), 4, None),
+        (&["--slaves", "64"], None, None, 64, None),
+        (
+            &["--slaves", "1", "--report", "r"],
+            None,
+            Some("r"),
+            1,
+            None,
+        ),
+        (
+            &["--image", "i", "--report", "r"],
+            Some("i"),
+            Some("r"),
+            4,
+            None,
+        ),
+        (
+            &["--report", "r", "--image", "r"],
+            Some("r"),
+            Some("r"),
+            4,
+            None,
+        ),
+        (
+            &["--adapt", "1", "--report", "r"],
+            None,
+            Some("r"),
+            4,
+            Some(1),
+        ),
+        (
+            &["--report", "r", "--image", "i", "--adapt", "1000000000"],
+            Some("i"),
+            Some("r"),
+            4,
+            Some(1_000_000_000),
+        ),
+        (
+            &[
+                "--report", "--image", "--image", "--report", "--slaves", "9",
+            ],
+            Some("--report"),
+            Some("--image"),
+            9,
+            None,
+        ),
+    ];
 
 #[test]
 fn reads_runs_with_a_report(rt: HostRuntime) -> Result<(), Fail> {
-    for &(options, image, report, slaves) in &READS_RUNS_WITH_A_REPORT_CASES {
+    for &(options, image, report, slaves, adapt) in &READS_RUNS_WITH_A_REPORT_CASES {
         let mut words = words_of(rt.alloc(), &["run", "p"])?;
         for option in options {
             words.push(String::from_str(rt.alloc(), option)?)?;
@@ -101,6 +136,7 @@ fn reads_runs_with_a_report(rt: HostRuntime) -> Result<(), Fail> {
             report,
             slaves,
             budget: 1_000_000_000,
+            adapt,
         };
         assert_eq!(rt;
             read_command(&words),
@@ -309,7 +345,7 @@ fn reads_distillations(rt: HostRuntime) -> Result<(), Fail> {
     Ok(())
 }
 
-static REFUSES_OTHER_WORDS_CASES: [&[&str]; 93] = [
+static REFUSES_OTHER_WORDS_CASES: [&[&str]; 96] = [
     &[],
     &[""],
     &["run"],
@@ -342,6 +378,9 @@ static REFUSES_OTHER_WORDS_CASES: [&[&str]; 93] = [
     &["run", "p", "--budget", "f", "--input", "1"],
     &["run", "p", "--input", "f", "--budget", "1", "more"],
     &["run", "p", "--image", "i"],
+    &["run", "p", "--adapt", "5"],
+    &["run", "p", "--adapt", "0", "--report", "r"],
+    &["run", "p", "--adapt", "1000000001", "--report", "r"],
     &["run", "p", "--image", "", "--report", "r"],
     &["run", "p", "--image", "i", "--report", ""],
     &["run", "p", "--slaves", "0"],
