@@ -1,11 +1,9 @@
 //! Profiles, masks and images of small programs: tests of `access_trace`, `profiler`, `load_values`,
-//! `liveness`, `distiller` and `adapt`.
+//! `liveness` and `distiller`.
 #![tactic(auto)]
 
 #[cfg(test)]
 mod access_trace_cases;
-#[cfg(test)]
-mod adapt_cases;
 #[cfg(test)]
 mod distiller_cases;
 #[cfg(test)]

@@ -3,7 +3,7 @@ use Rattle.std.proofs.Common.{◌≡◌, ◌+◌, suc, [], ap, sym, ◌∙◌, a
 use Rattle.rv_semantics.specs.Calls.{step}
 use Rattle.seq_machine.specs.Parts.{start_of}
 use Rattle.fitting.specs.Fails.{state_at}
-use Rattle.distilling_tests.proofs.adapt_cases.goes_on.Goals as goal
+use Rattle.adapt_tests.proofs.tests.goes_on.Goals as goal
 
 pub loop-machine-preserved : goal.loop-machine-preserved
 loop-machine-preserved c =

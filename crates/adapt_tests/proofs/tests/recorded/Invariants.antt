@@ -1,6 +1,6 @@
 -- The recorder is of the program's run.
 use Rattle.std.proofs.Common.{◌≡◌, ◌≤◌, ◌-◌, []}
-use Rattle.distilling_tests.proofs.adapt_cases.recorded.Given as goal
+use Rattle.adapt_tests.proofs.tests.recorded.Given as goal
 
 abbrev pub invariant-loop-recorder : goal.invariant-loop-recorder
 invariant-loop-recorder l = record {

@@ -7,9 +7,8 @@ ghost use Rattle.elf_reader.specs.Executable.{IsProgram};
 ghost use Rattle.seq_machine.specs.Parts.{start_of};
 ghost use Rattle.fitting.specs.Fails.{state_at};
 
-use crate::programs::anchor;
 use adapt::Adapter;
-use dist_image::{Assumption, Image, Slot};
+use dist_image::{Anchor, Assumption, Image, Slot};
 use elf_reader::Program;
 use memory::PlainMemory;
 use profile_data::write_profile;
@@ -111,7 +110,18 @@ fn an_image_is_due_after_five_steps(rt: HostRuntime) -> Result<(), Fail> {
         },
         Slot::Go { target: 0x1_0004 },
     ];
-    let anchors = [anchor(0x1_0000, 0, 64), anchor(0x1_0004, 2, 64)];
+    let anchors = [
+        Anchor {
+            pc: 0x1_0000,
+            slot: 0,
+            count: 64,
+        },
+        Anchor {
+            pc: 0x1_0004,
+            slot: 2,
+            count: 64,
+        },
+    ];
     assert!(rt;
         image.slots.as_slice() == slots.as_slice() && image.anchors.as_slice() == anchors.as_slice()
     );

@@ -4,7 +4,7 @@ use Rattle.memory.specs.Plain.{held}
 use Rattle.seq_machine.specs.Parts.{start_of}
 use Rattle.seq_machine.specs.States.{state_of}
 use Rattle.fitting.specs.Fails.{state_at}
-use Rattle.distilling_tests.proofs.adapt_cases.goes_on.Given as goal
+use Rattle.adapt_tests.proofs.tests.goes_on.Given as goal
 
 abbrev pub invariant-loop-machine : goal.invariant-loop-machine
 invariant-loop-machine l = record {
