@@ -248,7 +248,7 @@ static PARTS: [([PartSizes; 2], u32, u32); 8] = [
 
 #[test]
 fn lays_later_parts_over_earlier_ones(rt: HostRuntime) -> Result<(), Fail> {
-    for &(parts, address, word) in &PARTS {
+    for (parts, address, word) in PARTS {
         let words = [0x0403_0201, 0x0807_0605, 0x0C0B_0A09, 0x100F_0E0D];
         let program = read_elf(rt.alloc(), &file(rt.alloc(), &words, parts)?)?;
         let machine: Machine<PlainMemory> = load(rt.alloc(), &program, Vec::new(rt.alloc()))?;
