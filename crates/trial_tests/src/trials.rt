@@ -115,19 +115,17 @@ fn a_trial_whose_text_is_not_put(rt: HostRuntime) -> Result<(), Fail> {
     Ok(())
 }
 
-/// Words that are no trial.
-static NO_TRIALS: [&[&str]; 6] = [
-    &["trial"],
-    &["trial", "1"],
-    &["trial", "1", "0"],
-    &["trial", "1", "10001"],
-    &["trial", "1000000000001", "1"],
-    &["trial", "1", "1", "--budget"],
-];
-
 #[test]
 fn other_numbers_are_no_trial(rt: HostRuntime) -> Result<(), Fail> {
-    for &words in &NO_TRIALS {
+    let cases: [&[&str]; 6] = [
+        &["trial"],
+        &["trial", "1"],
+        &["trial", "1", "0"],
+        &["trial", "1", "10001"],
+        &["trial", "1000000000001", "1"],
+        &["trial", "1", "1", "--budget"],
+    ];
+    for words in cases {
         let left = perform(
             rt.alloc(),
             words,
