@@ -136,3 +136,15 @@ fn an_image_is_due_after_five_steps(rt: HostRuntime) -> Result<(), Fail> {
     );
     Ok(())
 }
+
+#[test]
+fn the_next_is_due_from_the_position_asked(rt: HostRuntime) -> Result<(), Fail> {
+    let program = program(rt.alloc(), &TEN_TURNS_LOOP)?;
+    let mut adapter = Adapter::new(rt.alloc(), &program, Vec::new(rt.alloc()), 5)?;
+    let first = next(rt.alloc(), &mut adapter, &program, 8)?.is_some();
+    let early = next(rt.alloc(), &mut adapter, &program, 12)?.is_some();
+    assert_eq!(rt; (first, early, adapter.due()), (true, false, 13));
+    let second = next(rt.alloc(), &mut adapter, &program, 20)?.is_some();
+    assert_eq!(rt; (second, adapter.due()), (true, 25));
+    Ok(())
+}
