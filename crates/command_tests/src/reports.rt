@@ -255,15 +255,12 @@ fn run_as_alone(alloc: Global, image: &[u32]) -> Result<bool, AllocError> {
 #[test]
 fn images_made_by_hand_change_no_run(rt: HostRuntime) -> Result<(), Fail> {
     let alloc = rt.alloc();
-    let same = [
-        run_as_alone(alloc, &TEN_TURNS)?,
-        run_as_alone(alloc, &EXIT_7_CALL)?,
-        run_as_alone(alloc, &WRONG_ANCHOR)?,
-        run_as_alone(alloc, &COUNTER)?,
-        run_as_alone(alloc, &REWRITTEN)?,
-        run_as_alone(alloc, &COMPARE_NEVER_TRUE)?,
-    ];
-    assert_eq!(rt; same, [true; 6]);
+    assert!(rt; run_as_alone(alloc, &TEN_TURNS)?);
+    assert!(rt; run_as_alone(alloc, &EXIT_7_CALL)?);
+    assert!(rt; run_as_alone(alloc, &WRONG_ANCHOR)?);
+    assert!(rt; run_as_alone(alloc, &COUNTER)?);
+    assert!(rt; run_as_alone(alloc, &REWRITTEN)?);
+    assert!(rt; run_as_alone(alloc, &COMPARE_NEVER_TRUE)?);
     Ok(())
 }
 
