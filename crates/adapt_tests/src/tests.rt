@@ -71,6 +71,18 @@ fn next(
     }
 }
 
+/// A program that goes through 524,290 words, each of which does nothing, and then stays where it is.
+fn long_line(alloc: Global) -> Result<Program, Fail>
+    ensures { IfOk result IsProgram }
+{
+    let mut words = Vec::new(alloc);
+    for _ in 0..524_290 {
+        words.push(0x0000_0013)?;
+    }
+    words.push(0x0000_006F)?;
+    Ok(program(alloc, &words)?)
+}
+
 #[test]
 fn a_recorder_has_the_profile_of_its_steps(rt: HostRuntime) -> Result<(), Fail> {
     let program = program(rt.alloc(), &COMPARE_LOOP)?;
@@ -146,5 +158,18 @@ fn the_next_is_due_from_the_position_asked(rt: HostRuntime) -> Result<(), Fail> 
     assert_eq!(rt; (first, early, adapter.due()), (true, false, 13));
     let second = next(rt.alloc(), &mut adapter, &program, 20)?.is_some();
     assert_eq!(rt; (second, adapter.due()), (true, 25));
+    Ok(())
+}
+
+/// A profile has 524,288 rows at most. Behind as many steps no image is made any more, however often one is due.
+#[test]
+fn no_image_is_made_of_a_run_that_is_too_wide(rt: HostRuntime) -> Result<(), Fail> {
+    let program = long_line(rt.alloc())?;
+    let mut adapter = Adapter::new(rt.alloc(), &program, Vec::new(rt.alloc()), 1_000)?;
+    let narrow = next(rt.alloc(), &mut adapter, &program, 1_000)?.is_some();
+    let wide = next(rt.alloc(), &mut adapter, &program, 524_289)?.is_some();
+    assert_eq!(rt; (narrow, wide, adapter.due()), (true, false, 525_289));
+    let wider = next(rt.alloc(), &mut adapter, &program, 530_000)?.is_some();
+    assert_eq!(rt; (wider, adapter.due()), (false, 531_000));
     Ok(())
 }

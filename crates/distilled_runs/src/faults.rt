@@ -1,10 +1,10 @@
 //! Faults of the store: each of a command's calls fails once, and its line names the file of that call.
 
-use crate::profiles::COMPARE_LOOP_PROFILE;
 use command_fixtures::outside_world::{Fails, Files, SURE, perform_over};
 use std::alloc::{AllocError, Global};
 use std::test::Fail;
 use test_programs::images::*;
+use test_programs::profiles::COMPARE_LOOP_PROFILE;
 use test_programs::programs::*;
 
 /// The words of each command that reads files, and the names of the files in the order of its calls.

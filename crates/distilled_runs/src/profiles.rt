@@ -4,16 +4,8 @@
 use command_fixtures::outside_world::{Fails, Files, SURE, perform, perform_over};
 use std::test::Fail;
 use test_programs::images::*;
+use test_programs::profiles::COMPARE_LOOP_PROFILE;
 use test_programs::programs::*;
-
-/// The profile of a loop of ten turns with a compare that is never true, as the numbers of four bytes
-/// of its file: 45 steps, with which the run ends, and nine rows of seven numbers. A row has its
-/// address, its flags, how often it was executed and taken, in two numbers each, and no targets.
-pub static COMPARE_LOOP_PROFILE: [u32; 69] = [
-    0x4650534D, 1, 45, 0, 1, 9, 0x10000, 0, 1, 0, 0, 0, 0, 0x10004, 0, 10, 0, 0, 0, 0, 0x10008, 0,
-    10, 0, 0, 0, 0, 0x1000C, 0, 10, 0, 0, 0, 0, 0x10010, 0, 10, 0, 9, 0, 0, 0x10014, 0, 1, 0, 0, 0,
-    0, 0x1001C, 0, 1, 0, 0, 0, 0, 0x10020, 0, 1, 0, 0, 0, 0, 0x10024, 0, 1, 0, 0, 0, 0,
-];
 
 #[test]
 fn a_profile_is_written_or_a_fault_is_told(rt: HostRuntime) -> Result<(), Fail> {

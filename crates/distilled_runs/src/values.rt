@@ -1,10 +1,10 @@
 //! `values`, and `distill` with a list of values: loads that gave one value become constants, and what
 //! the image lists of them is checked.
 
-use crate::profiles::COMPARE_LOOP_PROFILE;
 use command_fixtures::outside_world::{Fails, Files, Left, SURE, perform_over};
 use std::alloc::{AllocError, Global};
 use std::test::Fail;
+use test_programs::profiles::COMPARE_LOOP_PROFILE;
 use test_programs::programs::*;
 
 /// The word that begins every list of values.

@@ -5,27 +5,13 @@ use indexmap::IndexMap;
 use profile_data::{Profile, ProfileErr, read_profile, write_profile};
 use std::alloc::{AllocError, Global};
 use std::test::Fail;
+use test_programs::profiles::COMPARE_LOOP_PROFILE;
 use test_programs::programs::bytes_of;
 
 const MAGIC: u32 = 0x4650_534D;
 
 /// The greatest number of four bytes.
 const ALL: u32 = u32::MAX;
-
-/// The profile of a loop of ten turns with a comparison that is never true: 45 steps, with which the
-/// run ends, and nine rows.
-static NEVER_TRUE: [u32; 69] = [
-    MAGIC, 1, 45, 0, 1, 9, //
-    0x1_0000, 0, 1, 0, 0, 0, 0, //
-    0x1_0004, 0, 10, 0, 0, 0, 0, //
-    0x1_0008, 0, 10, 0, 0, 0, 0, //
-    0x1_000C, 0, 10, 0, 0, 0, 0, //
-    0x1_0010, 0, 10, 0, 9, 0, 0, //
-    0x1_0014, 0, 1, 0, 0, 0, 0, //
-    0x1_001C, 0, 1, 0, 0, 0, 0, //
-    0x1_0020, 0, 1, 0, 0, 0, 0, //
-    0x1_0024, 0, 1, 0, 0, 0, 0,
-];
 
 /// A run of three steps that goes on: a store whose bytes are read, and an indirect jump to two
 /// addresses that was changed.
@@ -62,7 +48,7 @@ fn refusal(alloc: Global, numbers: &[u32]) -> Result<Option<ProfileErr>, AllocEr
 
 #[test]
 fn reads_nine_rows(rt: HostRuntime) -> Result<(), Fail> {
-    let bytes = bytes_of(rt.alloc(), &NEVER_TRUE)?;
+    let bytes = bytes_of(rt.alloc(), &COMPARE_LOOP_PROFILE)?;
     let profile = read_profile(rt.alloc(), &bytes)?;
     assert_eq!(rt;
         (profile.steps(), profile.ended(), profile.len()),
@@ -75,7 +61,7 @@ fn reads_nine_rows(rt: HostRuntime) -> Result<(), Fail> {
 
 #[test]
 fn finds_and_writes_nine_rows(rt: HostRuntime) -> Result<(), Fail> {
-    let bytes = bytes_of(rt.alloc(), &NEVER_TRUE)?;
+    let bytes = bytes_of(rt.alloc(), &COMPARE_LOOP_PROFILE)?;
     let profile = read_profile(rt.alloc(), &bytes)?;
     let absent = profile.row(0x1_0018).map(|row| row.pc);
     let seventh = profile.at(6).map(|row| row.pc);
@@ -119,7 +105,7 @@ fn a_prefix_ends_early(rt: HostRuntime) -> Result<(), Fail> {
         let answer = read_profile(rt.alloc(), &bytes[..length]);
         assert_eq!(rt; answer.err(), Some(ProfileErr::Short), "{length} bytes");
     }
-    let bytes = bytes_of(rt.alloc(), &NEVER_TRUE)?;
+    let bytes = bytes_of(rt.alloc(), &COMPARE_LOOP_PROFILE)?;
     for length in 0..bytes.len() {
         let answer = read_profile(rt.alloc(), &bytes[..length]);
         assert_eq!(rt; answer.err(), Some(ProfileErr::Short), "{length} bytes");
