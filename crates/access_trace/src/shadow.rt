@@ -1,10 +1,9 @@
 //! A mark for each byte of a guest's memory.
 
-ghost use Rattle.std.specs.Prelude.{◌≡◌, ℕ, ◌+◌, ◌-◌, ◌%◌, ◌^◌, ◌<◌, ◌≤◌, ◌==◌, if◌then◌else◌, true, false, IfOk, OnOk, OnErr, IfSome, None, is_some};
+ghost use Rattle.std.specs.Prelude.{◌≡◌, ℕ, ◌+◌, ◌-◌, ◌%◌, ◌^◌, ◌<◌, ◌≤◌, ◌==◌, true, IfOk, OnOk, OnErr, IfSome, None, is_some};
 ghost use Rattle.fitting.specs.Claims.{among};
-ghost use Rattle.profile_laws.specs.Tally.{places, bytes_in};
-ghost use Rattle.access_trace.specs.Spans.{span_of};
-ghost use Rattle.access_trace.specs.Shadows.{spelled, word_of, lane, apart, own_at, mark_at};
+ghost use Rattle.profile_laws.specs.Tally.{places};
+ghost use Rattle.access_trace.specs.Shadows.{spelled, AreOthersSame, word_of, lane, apart, own_at, mark_at, AreOthersOwn, AreMarked, HasOwn, AreApart, AreMarkedSo, AreSameOutside};
 
 use crate::span::ByteRange;
 use memory::Memory;
@@ -27,7 +26,7 @@ fn mark_in<M: Memory>(kept: &M, word: u32) -> u32
 fn keep<M: Memory>(alloc: Global, kept: &mut M, word: u32, mark: u32) -> Result<(), AllocError>
     requires { word % 4 ≡ 0 }
     ensures here { OnOk result (spelled word (M.at kept.new) ≡ mark) }
-    ensures elsewhere { (x : ℕ) → x % 4 ≡ 0 → (x ≡ word → ⊥) → spelled x (M.at kept.new) ≡ spelled x (M.at kept.old) }
+    ensures elsewhere { AreOthersSame (M.at kept.old) (M.at kept.new) word }
     ensures err { OnErr result (M.at kept.new ≡ M.at kept.old) }
 {
     kept.put_word(alloc, word, mark)
@@ -90,8 +89,8 @@ impl<M: Memory> Shadow<M> {
     #[inline(always)]
     pub fn of_word(&self, span: ByteRange) -> Option<u32>
         requires { span.from % 4 + span.count ≤ 4 }
-        ensures marks { IfSome result (λ mark. (a : ℕ) → among (bytes_in (span_of span)) a ≡ true → mark_at M.at self.now a ≡ mark) }
-        ensures own { result ≡ None → (a : ℕ) → among (bytes_in (span_of span)) a ≡ true → mark_at M.at self.now a ≡ own_at M.at self.now a }
+        ensures marks { IfSome result (λ mark. AreMarked M.at self.now span mark) }
+        ensures own { result ≡ None → AreApart M.at self.now span }
     {
         let mark = mark_in(&self.whole, span.from - span.from % 4);
         if mark == APART {
@@ -103,8 +102,8 @@ impl<M: Memory> Shadow<M> {
     // The mark that each byte of a span has of its own, if all of them have the same.
     #[inline(never)]
     fn common_own(&self, span: ByteRange) -> Option<u32>
-        ensures marks { IfSome result (λ mark. (a : ℕ) → among (bytes_in (span_of span)) a ≡ true → own_at M.at self.now a ≡ mark) }
-        ensures found { (mark : ℕ) → 0 < span.count → ((a : ℕ) → among (bytes_in (span_of span)) a ≡ true → own_at M.at self.now a ≡ mark) → is_some result ≡ true }
+        ensures marks { IfSome result (λ mark. HasOwn M.at self.now span mark) }
+        ensures found { (mark : ℕ) → 0 < span.count → HasOwn M.at self.now span mark → is_some result ≡ true }
     {
         let mark = self.own(span.from);
         for i in 1..span.count {
@@ -119,8 +118,9 @@ impl<M: Memory> Shadow<M> {
     /// memory.
     #[inline(always)]
     pub fn common(&self, span: ByteRange) -> Option<u32>
-        ensures marks { IfSome result (λ mark. (a : ℕ) → among (bytes_in (span_of span)) a ≡ true → mark_at M.at self.now a ≡ mark) }
-        ensures found { (mark : ℕ) → 0 < span.count → span.from % 4 + span.count ≤ 4 → ((a : ℕ) → among (bytes_in (span_of span)) a ≡ true → mark_at M.at self.now a ≡ mark) → is_some result ≡ true }
+        ensures marks { IfSome result (λ mark. AreMarked M.at self.now span mark) }
+        ensures found { (mark : ℕ) → 0 < span.count → span.from % 4 + span.count ≤ 4
+            → AreMarked M.at self.now span mark → is_some result ≡ true }
     {
         let ByteRange { count, from } = span;
         if count > 4 - from % 4 {
@@ -138,7 +138,7 @@ impl<M: Memory> Shadow<M> {
     fn put_word(&mut self, alloc: Global, word: u32, mark: u32) -> Result<(), AllocError>
         requires word { word % 4 ≡ 0 }
         requires mark { mark < 2 ^ 32 - 1 }
-        ensures ok { OnOk result ((a : ℕ) → mark_at M.at self.new a ≡ (if word_of a == word then mark else mark_at M.at self.old a)) }
+        ensures ok { OnOk result (AreMarkedSo M.at self.old self.new (λ a. word_of a == word) mark) }
         ensures err { OnErr result ((a : ℕ) → mark_at M.at self.new a ≡ mark_at M.at self.old a) }
     {
         keep(alloc, &mut self.whole, word, mark)
@@ -149,7 +149,7 @@ impl<M: Memory> Shadow<M> {
         requires { word % 4 ≡ 0 }
         ensures whole { M.at self.new.whole ≡ M.at self.old.whole }
         ensures here { OnOk result ((place : ℕ) → spelled word (M.at (lane self.new place)) ≡ mark) }
-        ensures elsewhere { (x place : ℕ) → x % 4 ≡ 0 → (x ≡ word → ⊥) → spelled x (M.at (lane self.new place)) ≡ spelled x (M.at (lane self.old place)) }
+        ensures elsewhere { AreOthersOwn M.at self.old self.new word }
     {
         keep(alloc, &mut self.first, word, mark)?;
         keep(alloc, &mut self.second, word, mark)?;
@@ -190,7 +190,7 @@ impl<M: Memory> Shadow<M> {
     // Marks one byte.
     fn put_byte(&mut self, alloc: Global, a: u32, mark: u32) -> Result<(), AllocError>
         requires { mark < 2 ^ 32 - 1 }
-        ensures ok { OnOk result ((b : ℕ) → mark_at M.at self.new b ≡ (if b == a then mark else mark_at M.at self.old b)) }
+        ensures ok { OnOk result (AreMarkedSo M.at self.old self.new (λ b. b == a) mark) }
         ensures err { OnErr result ((b : ℕ) → mark_at M.at self.new b ≡ mark_at M.at self.old b) }
     {
         self.part(alloc, a - a % 4)?;
@@ -203,7 +203,8 @@ impl<M: Memory> Shadow<M> {
         requires some { 0 < span.count }
         requires mark { mark < 2 ^ 32 - 1 }
         ensures count { IfOk result (λ count. (0 < count) × (count ≤ span.count)) }
-        ensures ok { IfOk result (λ count. (a : ℕ) → mark_at M.at self.new a ≡ (if among (places count span.from) a then mark else mark_at M.at self.old a)) }
+        ensures ok { IfOk result (λ count.
+            AreMarkedSo M.at self.old self.new (among (places count span.from)) mark) }
         ensures err { OnErr result ((a : ℕ) → mark_at M.at self.new a ≡ mark_at M.at self.old a) }
     {
         let ByteRange { count, from } = span;
@@ -220,8 +221,8 @@ impl<M: Memory> Shadow<M> {
     #[inline(always)]
     pub fn put(&mut self, alloc: Global, span: ByteRange, mark: u32) -> Result<(), AllocError>
         requires { mark < 2 ^ 32 - 1 }
-        ensures marked { OnOk result ((a : ℕ) → among (bytes_in (span_of span)) a ≡ true → mark_at M.at self.new a ≡ mark) }
-        ensures others { (a : ℕ) → among (bytes_in (span_of span)) a ≡ false → mark_at M.at self.new a ≡ mark_at M.at self.old a }
+        ensures marked { OnOk result (AreMarked M.at self.new span mark) }
+        ensures others { AreSameOutside M.at self.old self.new span }
     {
         let mut left = span;
         while left.count > 0 {

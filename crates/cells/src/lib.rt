@@ -50,15 +50,20 @@ pub enum End {
 /// Where a state holds what a task recorded, that state with the task's writes and pc is the
 /// state after as many steps, which then print what the task's steps print.
 pub fn jumps()
-    ensures state { (m : Machine) → IsLocal m → (c s : Arch) (t : ℕ) → IsQuiet m c t → Matches m c t s → apply m c t s ≡ moves m s t }
-    ensures quiet { (m : Machine) → IsLocal m → (c s : Arch) (t : ℕ) → IsQuiet m c t → Matches m c t s → IsQuiet m s t }
-    ensures output { (m : Machine) → IsLocal m → (c s : Arch) (t : ℕ) → IsQuiet m c t → Matches m c t s → said m s t ≡ said m c t }
+    ensures state { (m : Machine) → IsLocal m → (c s : Arch) (t : ℕ) → IsQuiet m c t → Matches m c t s
+        → apply m c t s ≡ moves m s t }
+    ensures quiet { (m : Machine) → IsLocal m → (c s : Arch) (t : ℕ) → IsQuiet m c t → Matches m c t s
+        → IsQuiet m s t }
+    ensures output { (m : Machine) → IsLocal m → (c s : Arch) (t : ℕ) → IsQuiet m c t → Matches m c t s
+        → said m s t ≡ said m c t }
 {}
 
 /// `differ` tells the first differing cell in the order of cells, with its two values, and tells
 /// none exactly where none differs. Where cells alone are recorded it tells a cell.
 pub fn differ_is_first()
-    ensures first { (recorded : Cell → Option ℕ) (found : Cell → ℕ) → IsFirstDiffer recorded found (differ recorded found) }
-    ensures cell { (recorded : Cell → Option ℕ) (found : Cell → ℕ) (d : Differ) → ((x : Cell) → is_some (recorded x) ≡ true → IsCell x)
+    ensures first { (recorded : Cell → Option ℕ) (found : Cell → ℕ)
+        → IsFirstDiffer recorded found (differ recorded found) }
+    ensures cell { (recorded : Cell → Option ℕ) (found : Cell → ℕ) (d : Differ)
+        → ((x : Cell) → is_some (recorded x) ≡ true → IsCell x)
         → differ recorded found ≡ Some d → IsCell d.cell }
 {}

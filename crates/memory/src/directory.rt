@@ -1,5 +1,5 @@
 //! Where each page lies: an ordered map from page numbers to places, with a number's two digits as its keys.
-ghost use Rattle.std.specs.Prelude.{◌≡◌, ◌≤◌, ℕ, ◌<◌, ◌/◌, ◌^◌, ◌==◌, IfOk, OnOk, OnErr, MatchOption, slice_index, slice_get, vec_len, if◌then◌else◌, option_map, Some};
+ghost use Rattle.std.specs.Prelude.{◌≡◌, ◌≤◌, ℕ, ◌<◌, ◌/◌, ◌^◌, ◌==◌, IfOk, OnOk, OnErr, MatchOption, slice_index, slice_get, Some};
 
 use std::alloc::{AllocError, Global};
 
@@ -21,7 +21,7 @@ pub struct Directory {
 }
 
 impl Directory {
-    ghost use Rattle.memory.specs.Pages.{place_in, entry};
+    ghost use Rattle.memory.specs.Pages.{place_in, entry, IsTableOf, IsSet};
 
     /// A directory in which each place is 0.
     pub fn new(alloc: Global) -> Self
@@ -39,7 +39,7 @@ impl Directory {
         requires { upper < 1024 }
         ensures { MatchOption result
             ((lower : ℕ) → entry (slice_get self.now.tables.items (slice_index self.now.top upper)) upper lower ≡ 0)
-            (λ at. (slice_index self.now.top upper ≡ at) × (at < vec_len self.now.tables) × (option_map (λ t. t.upper) (slice_get self.now.tables.items at) ≡ Some upper)) }
+            (λ at. IsTableOf self.now upper at) }
     {
         let at = self.top[upper as usize];
         match self.tables.get(at) {
@@ -64,7 +64,7 @@ impl Directory {
     fn make_table(&mut self, upper: u32) -> Result<usize, AllocError>
         requires { upper < 1024 }
         ensures same { (n : ℕ) → place_in self.new n ≡ place_in self.old n }
-        ensures found { IfOk result (λ at. (slice_index self.new.top upper ≡ at) × (at < vec_len self.new.tables) × (option_map (λ t. t.upper) (slice_get self.new.tables.items at) ≡ Some upper)) }
+        ensures found { IfOk result (λ at. IsTableOf self.new upper at) }
     {
         if let Some(at) = self.table(upper) {
             return Ok(at);
@@ -81,7 +81,7 @@ impl Directory {
     /// Sets the place of that page; the others stay.
     pub fn set(&mut self, number: u32, place: usize) -> Result<(), AllocError>
         requires { number < 2 ^ 20 }
-        ensures ok { OnOk result ((n : ℕ) → place_in self.new n ≡ (if n == number then place else place_in self.old n)) }
+        ensures ok { OnOk result (IsSet self.old self.new number place) }
         ensures err { OnErr result ((n : ℕ) → place_in self.new n ≡ place_in self.old n) }
     {
         let at = self.make_table(number / 1024)?;

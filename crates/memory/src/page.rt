@@ -11,7 +11,7 @@ pub struct Page {
 }
 
 impl Page {
-    ghost use Rattle.memory.specs.Pages.{bytes_at, number_at, overwritten};
+    ghost use Rattle.memory.specs.Pages.{bytes_at, number_at, overwritten, IsWritten, AreOthersSame};
 
     /// Page `number`, if it lies at that place.
     #[inline(always)]
@@ -47,9 +47,9 @@ impl Page {
         bytes: &[u8],
     ) -> bool
         requires { from + length bytes.now ≤ 4096 }
-        ensures here { OnTrue result (bytes_at pages.new.items place number ≡ overwritten (bytes_at pages.old.items place number) from bytes.now) }
+        ensures here { OnTrue result (IsWritten pages.old.items pages.new.items place number from bytes.now) }
         ensures whole { OnTrue result (length (bytes_at pages.old.items place number) ≡ 4096) }
-        ensures others { (p n : ℕ) → (p ≡ place → n ≡ number → ⊥) → bytes_at pages.new.items p n ≡ bytes_at pages.old.items p n }
+        ensures others { AreOthersSame pages.old.items pages.new.items place number }
         ensures refused { OnFalse result (pages.new.items ≡ pages.old.items) }
         ensures found { number_at pages.old.items place ≡ Some number → result ≡ true }
         ensures numbers { (p : ℕ) → number_at pages.new.items p ≡ number_at pages.old.items p }

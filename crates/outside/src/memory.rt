@@ -26,7 +26,11 @@ impl Model for MemStore {
 
     ghost coded = { store_code };
 
-    ghost view = { λ s. record { files = s.store; schedule = s.schedule; failed = option_map string_bytes s.failed } };
+    ghost view = { λ s. record {
+      files = s.store;
+      schedule = s.schedule;
+      failed = option_map string_bytes s.failed;
+    } };
 
     ghost invariant = { λ s. s.schedule.faults < 2 ^ 64 };
 }
@@ -40,7 +44,11 @@ impl MemStore {
         fail: Vec<u64>,
     ) -> Result<MemStore, AllocError>
         requires { HasDistinctNames files.items }
-        ensures { IfOk result (λ s. s ≡ record { files = files_of files.items; schedule = fresh fail.items; failed = None }) }
+        ensures { IfOk result (λ s. s ≡ record {
+          files = files_of files.items;
+          schedule = fresh fail.items;
+          failed = None;
+        }) }
     {
         Ok(MemStore {
             store: SureStore::new(files),
@@ -78,7 +86,8 @@ impl Store for MemStore {
         ensures files { self.new.files ≡ self.old.files }
         ensures answer { ReadAnswers (Some self.old.files) self.old.schedule.faults self.new.schedule.faults
             self.old.failed self.new.failed name.now limit result }
-        ensures schedule { Follows StoreErr.Failed StoreErr.Memory self.old.schedule self.new.schedule result }
+        ensures schedule { Follows StoreErr.Failed StoreErr.Memory
+            self.old.schedule self.new.schedule result }
     {
         if self.schedule.is_next_listed() {
             self.fail(alloc, name);
@@ -96,7 +105,8 @@ impl Store for MemStore {
             self.old.schedule.faults self.new.schedule.faults self.old.failed self.new.failed
             name.now bytes.now result }
         ensures failed { result ≡ Err StoreErr.Failed → self.new.files ≡ self.old.files }
-        ensures schedule { Follows StoreErr.Failed StoreErr.Memory self.old.schedule self.new.schedule result }
+        ensures schedule { Follows StoreErr.Failed StoreErr.Memory
+            self.old.schedule self.new.schedule result }
     {
         if self.schedule.is_next_listed() {
             self.fail(alloc, name);

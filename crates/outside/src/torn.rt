@@ -54,8 +54,8 @@ impl Sink for TornSink {
     ghost faults = { λ s. s.faults };
 
     fn put(&mut self, alloc: Global, bytes: &[u8]) -> Result<(), SinkErr>
-        ensures answer { PutAnswers (Some self.old.bytes) (Some self.new.bytes) self.old.faults self.new.faults
-            bytes.now result }
+        ensures answer { PutAnswers (Some self.old.bytes) (Some self.new.bytes)
+            self.old.faults self.new.faults bytes.now result }
         ensures fits { OnOk result (length bytes.now ≤ self.old.room) }
         ensures room { OnOk result (self.new.room ≡ self.old.room - length bytes.now) }
         ensures full { result ≡ Err SinkErr.Failed → self.old.room < length bytes.now }

@@ -6,7 +6,7 @@ use Rattle.tree_node.specs.declared.node.Node.{Node}
 use Rattle.std.specs.Global.{Global}
 use Rattle.std.specs.declared.rc.Rc.{Rc}
 use Rattle.tree_node.specs.Nodes.{child, owned}
-use Rattle.page_leaves.specs.Paths.{kid, leaf_below}
+use Rattle.page_leaves.specs.Paths.{kid, leaf_below, IsPlaced, AreSameBelow, AreOthersSame}
 
 -- a number is what its quotient and its remainder are
 same_number : (n m s : ℕ) → n / s ≡ m / s → n % s ≡ m % s → n ≡ m
@@ -54,17 +54,8 @@ exchanged node mid after i inner out in' j = in' j ∙ ⊎_elim
     (λ ne. ap (λ b. cond b inner (child mid j)) (ne_eqb j i ne) ∙ out j ∙ ap (λ b. cond b None (child node j)) (ne_eqb j i ne) ∙ sym (ap (λ b. cond b inner (child node j)) (ne_eqb j i ne)))
     (cases_eq j i)
 
-abbrev Placed : ℕ → Option Node → Option Node → ℕ → Option Node → Type 0
-Placed d before after number leaf = (n : ℕ) → leaf_below d after n ≡ (if n == number then leaf else leaf_below d before n)
-
-abbrev Same : ℕ → Option Node → Option Node → Type 0
-Same d before after = (n : ℕ) → leaf_below d after n ≡ leaf_below d before n
-
-abbrev Others : ℕ → Option Node → Option Node → ℕ → Type 0
-Others d before after number = (n : ℕ) → (n ≡ number → ⊥) → leaf_below d after n ≡ leaf_below d before n
-
 -- a leaf is put where the depth is 0
-pub placed_at : (d number : ℕ) (before leaf : Option Node) → d ≡ 0 → number < 64 ^ d → Placed d before leaf number leaf
+pub placed_at : (d number : ℕ) (before leaf : Option Node) → d ≡ 0 → number < 64 ^ d → IsPlaced d before leaf number leaf
 placed_at zero number before leaf is small n = let z : number ≡ 0 = omega arith in ⊎_elim
     (λ e. ap (λ b. cond b leaf None) (eq-eqb n 0 e) ∙ sym (ap (λ b. cond b leaf (leaf_below 0 before n)) (eq-eqb n number (e ∙ sym z))))
     (λ ne. ap (λ b. cond b leaf None) (ne_eqb n 0 ne) ∙ sym (ap (λ b. cond b before None) (ne_eqb n 0 ne)) ∙ sym (ap (λ b. cond b leaf (leaf_below 0 before n)) (ne_eqb n number (λ e. ne (e ∙ z)))))
@@ -76,27 +67,27 @@ module _ (d : ℕ) (i number r : ℕ) (some : d ≡ 0 → ⊥) (digit : i ≡ nu
   up = omega arith
 
   -- under a node whose kids are the same but for one
-  pub placed : (before after inner o leaf : Option Node) → o ≡ kid before i → ((j : ℕ) → kid after j ≡ (if j == i then inner else kid before j)) → Placed (d - 1) o inner r leaf → Placed d before after number leaf
+  pub placed : (before after inner o leaf : Option Node) → o ≡ kid before i → ((j : ℕ) → kid after j ≡ (if j == i then inner else kid before j)) → IsPlaced (d - 1) o inner r leaf → IsPlaced d before after number leaf
   placed before after inner o leaf own kids is =
-      subst (λ k. Placed k before after number leaf) (sym up)
+      subst (λ k. IsPlaced k before after number leaf) (sym up)
       (placed_below (d - 1) before after inner i number digit kids leaf (λ n. is n ∙ ap (λ m. if n == m then leaf else leaf_below (d - 1) o n) left ∙ ap (λ p. if n == number % 64 ^ (d - 1) then leaf else leaf_below (d - 1) p n) own))
 
-  pub unchanged : (before after inner o : Option Node) → o ≡ kid before i → ((j : ℕ) → kid after j ≡ (if j == i then inner else kid before j)) → Same (d - 1) o inner → Same d before after
+  pub unchanged : (before after inner o : Option Node) → o ≡ kid before i → ((j : ℕ) → kid after j ≡ (if j == i then inner else kid before j)) → AreSameBelow (d - 1) o inner → AreSameBelow d before after
   unchanged before after inner o own kids is =
-      subst (λ k. Same k before after) (sym up) (same_below (d - 1) before after inner i number digit kids (λ n. is n ∙ ap (λ p. leaf_below (d - 1) p n) own))
+      subst (λ k. AreSameBelow k before after) (sym up) (same_below (d - 1) before after inner i number digit kids (λ n. is n ∙ ap (λ p. leaf_below (d - 1) p n) own))
 
   -- the same in place
   pub placed_in : (before inner o leaf : Option Node) (node mid after : Node) → before ≡ Some node → o ≡ child node i
       → ((j : ℕ) → child mid j ≡ (if j == i then None else child node j)) → ((j : ℕ) → child after j ≡ (if j == i then inner else child mid j))
-      → Placed (d - 1) o inner r leaf → Placed d before (Some after) number leaf
+      → IsPlaced (d - 1) o inner r leaf → IsPlaced d before (Some after) number leaf
   placed_in before inner o leaf node mid after there own out in' is =
-      subst (λ b. Placed d b (Some after) number leaf) (sym there) (placed (Some node) (Some after) inner o leaf own (exchanged node mid after i inner out in') is)
+      subst (λ b. IsPlaced d b (Some after) number leaf) (sym there) (placed (Some node) (Some after) inner o leaf own (exchanged node mid after i inner out in') is)
 
   pub unchanged_in : (before inner o : Option Node) (node mid after : Node) → before ≡ Some node → o ≡ child node i
       → ((j : ℕ) → child mid j ≡ (if j == i then None else child node j)) → ((j : ℕ) → child after j ≡ (if j == i then inner else child mid j))
-      → Same (d - 1) o inner → Same d before (Some after)
+      → AreSameBelow (d - 1) o inner → AreSameBelow d before (Some after)
   unchanged_in before inner o node mid after there own out in' is =
-      subst (λ b. Same d b (Some after)) (sym there) (unchanged (Some node) (Some after) inner o own (exchanged node mid after i inner out in') is)
+      subst (λ b. AreSameBelow d b (Some after)) (sym there) (unchanged (Some node) (Some after) inner o own (exchanged node mid after i inner out in') is)
 
   -- the leaf of the number lies under the child at its first digit
   pub down : (before : Option Node) → leaf_below d before number ≡ leaf_below (d - 1) (kid before i) r
@@ -112,6 +103,6 @@ module _ (d : ℕ) (i number r : ℕ) (some : d ≡ 0 → ⊥) (digit : i ≡ nu
   pub others_in : (before inner o : Option Node) (node mid after : Node) → before ≡ Some node → o ≡ child node i
       → ((j : ℕ) → child mid j ≡ (if j == i then None else child node j)) → ((j : ℕ) → child after j ≡ (if j == i then inner else child mid j))
       → ((n : ℕ) → (n ≡ r → ⊥) → leaf_below (d - 1) inner n ≡ leaf_below (d - 1) o n) → (n : ℕ) → (n ≡ number → ⊥) → leaf_below d (Some after) n ≡ leaf_below d before n
-  others_in before inner o node mid after there own out in' is = subst (λ b. Others d b (Some after) number) (sym there) (subst (λ k. Others k (Some node) (Some after) number) (sym up)
+  others_in before inner o node mid after there own out in' is = subst (λ b. AreOthersSame d b (Some after) number) (sym there) (subst (λ k. AreOthersSame k (Some node) (Some after) number) (sym up)
       (others_below (d - 1) (Some node) (Some after) inner i number digit (exchanged node mid after i inner out in')
       (λ n ne. is n (λ e. ne (e ∙ left)) ∙ ap (λ p. leaf_below (d - 1) p n) own)))

@@ -1,9 +1,8 @@
 //! Sixteen places for leaves that are found by their numbers alone, without a way through the tree.
-ghost use Rattle.std.specs.Prelude.{◌≡◌, ◌+◌, ◌%◌, ◌^◌, ◌<◌, ◌≤◌, ◌==◌, if◌then◌else◌, ℕ, None, Some, true, false, is_some, ◌/◌, IfOk, IfSome, length, slice_index, option_map};
+ghost use Rattle.std.specs.Prelude.{◌≡◌, ◌+◌, ◌%◌, ◌^◌, ◌<◌, ◌≤◌, ◌==◌, if◌then◌else◌, ℕ, None, Some, true, false, is_some, ◌/◌, IfOk, IfSome, length, option_map};
 ghost use Rattle.std.specs.Bool.{OnTrue, OnFalse};
-ghost use Rattle.cells.specs.Bytes.{number as spelt};
-ghost use Rattle.tree_node.specs.Nodes.{owned, child_at, bytes_of, is_inner, overwritten};
-ghost use Rattle.page_leaves.specs.Paths.{leaf_bytes, IsWritten, IsAlike};
+ghost use Rattle.tree_node.specs.Nodes.{owned, child_at, bytes_of, is_inner};
+ghost use Rattle.page_leaves.specs.Paths.{leaf_bytes, word_in, IsOverwritten, AreOverwritten, IsWritten, IsAlike};
 ghost use Rattle.page_leaves.specs.Fronts.{AreNumbers};
 
 use std::alloc::AllocError;
@@ -42,7 +41,7 @@ fn again(leaves: &[Option<Rc<Node>>; 16]) -> Result<[Option<Rc<Node>>; 16], Allo
 #[inline(always)]
 fn write_owned(leaf: &mut Rc<Node>, from: u8, bytes: &[u8]) -> bool
     requires { from + length bytes.now ≤ 256 }
-    ensures written { OnTrue result (bytes_of leaf.new.value ≡ overwritten (bytes_of leaf.old.value) from bytes.now) }
+    ensures written { OnTrue result (IsOverwritten leaf.old.value leaf.new.value from bytes.now) }
     ensures whole { OnTrue result (length (bytes_of leaf.old.value) ≡ 256) }
     ensures refused { OnFalse result (bytes_of leaf.new.value ≡ bytes_of leaf.old.value) }
 {
@@ -56,7 +55,7 @@ fn write_owned(leaf: &mut Rc<Node>, from: u8, bytes: &[u8]) -> bool
 #[inline(always)]
 fn write_some(leaf: &mut Option<Rc<Node>>, from: u8, bytes: &[u8]) -> bool
     requires { from + length bytes.now ≤ 256 }
-    ensures written { OnTrue result (leaf_bytes (owned leaf.new) ≡ overwritten (leaf_bytes (owned leaf.old)) from bytes.now) }
+    ensures written { OnTrue result (AreOverwritten (owned leaf.old) (owned leaf.new) from bytes.now) }
     ensures whole { OnTrue result (length (leaf_bytes (owned leaf.old)) ≡ 256) }
     ensures there { OnTrue result (is_some (owned leaf.new) ≡ true) }
     ensures stays { is_some (owned leaf.new) ≡ is_some (owned leaf.old) }
@@ -73,7 +72,7 @@ fn write_some(leaf: &mut Option<Rc<Node>>, from: u8, bytes: &[u8]) -> bool
 #[inline(always)]
 fn write_few(node: &mut Node, from: u8, bytes: &[u8]) -> bool
     requires { from + length bytes.now ≤ 256 }
-    ensures written { OnTrue result (bytes_of node.new ≡ overwritten (bytes_of node.old) from bytes.now) }
+    ensures written { OnTrue result (IsOverwritten node.old node.new from bytes.now) }
     ensures whole { OnTrue result (length (bytes_of node.old) ≡ 256) }
     ensures refused { OnFalse result (bytes_of node.new ≡ bytes_of node.old) }
     ensures leaf { is_inner node.old ≡ false → result ≡ true }
@@ -92,8 +91,8 @@ fn write_few(node: &mut Node, from: u8, bytes: &[u8]) -> bool
 fn write_nodes(first: &mut Node, from: u8, here: &[u8], second: &mut Node, later: &[u8]) -> bool
     requires here { from + length here.now ≤ 256 }
     requires later { length later.now ≤ 256 }
-    ensures first { OnTrue result (bytes_of first.new ≡ overwritten (bytes_of first.old) from here.now) }
-    ensures second { OnTrue result (bytes_of second.new ≡ overwritten (bytes_of second.old) 0 later.now) }
+    ensures first { OnTrue result (IsOverwritten first.old first.new from here.now) }
+    ensures second { OnTrue result (IsOverwritten second.old second.new 0 later.now) }
     ensures first_whole { OnTrue result (length (bytes_of first.old) ≡ 256) }
     ensures second_whole { OnTrue result (length (bytes_of second.old) ≡ 256) }
     ensures first_refused { OnFalse result (bytes_of first.new ≡ bytes_of first.old) }
@@ -113,8 +112,8 @@ fn write_beside(
 ) -> bool
     requires here { from + length here.now ≤ 256 }
     requires later { length later.now ≤ 256 }
-    ensures first { OnTrue result (bytes_of first.new ≡ overwritten (bytes_of first.old) from here.now) }
-    ensures second { OnTrue result (bytes_of second.new.value ≡ overwritten (bytes_of second.old.value) 0 later.now) }
+    ensures first { OnTrue result (IsOverwritten first.old first.new from here.now) }
+    ensures second { OnTrue result (IsOverwritten second.old.value second.new.value 0 later.now) }
     ensures first_whole { OnTrue result (length (bytes_of first.old) ≡ 256) }
     ensures second_whole { OnTrue result (length (bytes_of second.old.value) ≡ 256) }
     ensures first_refused { OnFalse result (bytes_of first.new ≡ bytes_of first.old) }
@@ -137,8 +136,8 @@ fn write_both(
 ) -> bool
     requires here { from + length here.now ≤ 256 }
     requires later { length later.now ≤ 256 }
-    ensures first { OnTrue result (bytes_of first.new.value ≡ overwritten (bytes_of first.old.value) from here.now) }
-    ensures second { OnTrue result (bytes_of second.new.value ≡ overwritten (bytes_of second.old.value) 0 later.now) }
+    ensures first { OnTrue result (IsOverwritten first.old.value first.new.value from here.now) }
+    ensures second { OnTrue result (IsOverwritten second.old.value second.new.value 0 later.now) }
     ensures first_whole { OnTrue result (length (bytes_of first.old.value) ≡ 256) }
     ensures second_whole { OnTrue result (length (bytes_of second.old.value) ≡ 256) }
     ensures first_refused { OnFalse result (bytes_of first.new.value ≡ bytes_of first.old.value) }
@@ -161,7 +160,7 @@ fn write_with_some(
 ) -> bool
     requires here { from + length here.now ≤ 256 }
     requires later { length later.now ≤ 256 }
-    ensures first { OnTrue result (bytes_of first.new.value ≡ overwritten (bytes_of first.old.value) from here.now) }
+    ensures first { OnTrue result (IsOverwritten first.old.value first.new.value from here.now) }
     ensures first_whole { OnTrue result (length (bytes_of first.old.value) ≡ 256) }
     ensures first_refused { OnFalse result (bytes_of first.new.value ≡ bytes_of first.old.value) }
     ensures second { OnTrue result (IsWritten (owned second.old) (owned second.new) 0 later.now) }
@@ -196,7 +195,7 @@ fn write_some_both(
 }
 
 impl Front {
-    ghost use Rattle.page_leaves.specs.Shown.{in_front};
+    ghost use Rattle.page_leaves.specs.Shown.{in_front, IsAlone, IsSameAt, IsSameElsewhere, IsSameBut, IsSameButTwo, AreOverwrittenAt, IsUnwrittenAt, IsWrittenAt, IsAlikeAt};
 
     /// No leaves.
     pub fn new() -> Front
@@ -234,8 +233,8 @@ impl Front {
     pub fn set(&mut self, number: u32, leaf: Option<Rc<Node>>)
         requires { number < 2 ^ 24 }
         ensures here { in_front self.new number ≡ owned leaf }
-        ensures away { (n : ℕ) → n % 16 ≡ number % 16 → (n ≡ number → ⊥) → in_front self.new n ≡ None }
-        ensures others { (n : ℕ) → (n % 16 ≡ number % 16 → ⊥) → in_front self.new n ≡ in_front self.old n }
+        ensures away { IsAlone self.new number }
+        ensures others { IsSameElsewhere self.old self.new number }
     {
         let k = (number % 16) as usize;
         self.numbers[k] = number;
@@ -246,12 +245,12 @@ impl Front {
     #[inline(always)]
     pub(crate) fn write(&mut self, number: u32, from: u8, bytes: &[u8]) -> bool
         requires { from + length bytes.now ≤ 256 }
-        ensures written { OnTrue result (leaf_bytes (in_front self.new number) ≡ overwritten (leaf_bytes (in_front self.old number)) from bytes.now) }
+        ensures written { OnTrue result (AreOverwrittenAt self.old self.new number from bytes.now) }
         ensures whole { OnTrue result (length (leaf_bytes (in_front self.old number)) ≡ 256) }
         ensures there { OnTrue result (is_some (in_front self.new number) ≡ true) }
         ensures stays { is_some (in_front self.new number) ≡ is_some (in_front self.old number) }
-        ensures refused { OnFalse result (leaf_bytes (in_front self.new number) ≡ leaf_bytes (in_front self.old number)) }
-        ensures others { (n : ℕ) → (n ≡ number → ⊥) → in_front self.new n ≡ in_front self.old n }
+        ensures refused { OnFalse result (IsUnwrittenAt self.old self.new number) }
+        ensures others { IsSameBut self.old self.new number }
     {
         let k = (number % 16) as usize;
         self.numbers[k] == number && write_some(&mut self.leaves[k], from, bytes)
@@ -271,11 +270,11 @@ impl Front {
         requires apart { first % 16 ≡ second % 16 → ⊥ }
         requires here { from + length here.now ≤ 256 }
         requires later { length later.now ≤ 256 }
-        ensures first { OnTrue result (IsWritten (in_front self.old first) (in_front self.new first) from here.now) }
-        ensures first_refused { OnFalse result (IsAlike (in_front self.old first) (in_front self.new first)) }
-        ensures second { OnTrue result (IsWritten (in_front self.old second) (in_front self.new second) 0 later.now) }
-        ensures second_refused { OnFalse result (IsAlike (in_front self.old second) (in_front self.new second)) }
-        ensures others { (n : ℕ) → (n ≡ first → ⊥) → (n ≡ second → ⊥) → in_front self.new n ≡ in_front self.old n }
+        ensures first { OnTrue result (IsWrittenAt self.old self.new first from here.now) }
+        ensures first_refused { OnFalse result (IsAlikeAt self.old self.new first) }
+        ensures second { OnTrue result (IsWrittenAt self.old self.new second 0 later.now) }
+        ensures second_refused { OnFalse result (IsAlikeAt self.old self.new second) }
+        ensures others { IsSameButTwo self.old self.new first second }
     {
         let i = (first % 16) as usize;
         let k = (second % 16) as usize;
@@ -292,10 +291,10 @@ impl Front {
     /// Exchanges what stands at the place of a number for what stands there in another front.
     #[inline(always)]
     pub(crate) fn exchange(&mut self, other: &mut Front, number: u32)
-        ensures here { (n : ℕ) → n % 16 ≡ number % 16 → in_front self.new n ≡ in_front other.old n }
-        ensures there { (n : ℕ) → n % 16 ≡ number % 16 → in_front other.new n ≡ in_front self.old n }
-        ensures others { (n : ℕ) → (n % 16 ≡ number % 16 → ⊥) → in_front self.new n ≡ in_front self.old n }
-        ensures others_there { (n : ℕ) → (n % 16 ≡ number % 16 → ⊥) → in_front other.new n ≡ in_front other.old n }
+        ensures here { IsSameAt other.old self.new number }
+        ensures there { IsSameAt self.old other.new number }
+        ensures others { IsSameElsewhere self.old self.new number }
+        ensures others_there { IsSameElsewhere other.old other.new number }
     {
         let k = (number % 16) as usize;
         mem::swap(&mut self.numbers[k], &mut other.numbers[k]);
@@ -316,7 +315,7 @@ impl Front {
     #[inline(always)]
     pub(crate) fn stands(&self, number: u32) -> bool
         ensures there { result ≡ is_some (in_front self.now number) }
-        ensures alone { OnTrue result ((n : ℕ) → n % 16 ≡ number % 16 → (n ≡ number → ⊥) → in_front self.now n ≡ None) }
+        ensures alone { OnTrue result (IsAlone self.now number) }
     {
         self.occupant(number) == number && self.has(number)
     }
@@ -344,7 +343,7 @@ impl Front {
     pub fn word(&self, a: u32) -> Option<u32>
         requires { a % 4 ≡ 0 }
         ensures there { is_some result ≡ is_some (in_front self.now (a / 256)) }
-        ensures value { IfSome result (λ word. word ≡ spelt 4 (a % 256) (λ i. slice_index (leaf_bytes (in_front self.now (a / 256))) i)) }
+        ensures value { IfSome result (λ word. word ≡ word_in (in_front self.now (a / 256)) (a % 256)) }
     {
         match self.leaf(a / 256) {
             Some(leaf) => Some(leaf.word((a % 256) as u8)),

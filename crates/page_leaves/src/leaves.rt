@@ -1,7 +1,7 @@
 //! The leaves of a memory, by number: in front of the tree, aside, or in it. A leaf is looked for in that order.
 //!
 //! Each change that may want memory leaves all bytes as they were until its last step, which can't be refused.
-ghost use Rattle.std.specs.Prelude.{◌≡◌, ◌⊎◌, ◌+◌, ◌*◌, ◌/◌, ◌%◌, ◌^◌, ◌<◌, ◌≤◌, ◌==◌, if◌then◌else◌, ℕ, None, Some, IfOk, IfSome, OnOk, OnErr, length, slice_index, option_map};
+ghost use Rattle.std.specs.Prelude.{◌≡◌, ◌+◌, ◌*◌, ◌/◌, ◌%◌, ◌^◌, ◌<◌, ◌≤◌, ◌==◌, if◌then◌else◌, ℕ, None, Some, IfOk, IfSome, OnOk, OnErr, length, slice_index, option_map};
 ghost use Rattle.std.specs.Bool.{OnTrue, OnFalse};
 ghost use Rattle.cells.specs.Bytes.{number as spelt, after_puts};
 ghost use Rattle.tree_node.specs.Nodes.{owned, byte, bytes_of, overwritten};
@@ -27,8 +27,8 @@ pub struct Leaves {
 }
 
 impl Leaves {
-    ghost use Rattle.page_leaves.specs.Shown.{in_front};
-    ghost use Rattle.page_leaves.specs.Trees.{behind, leaf_of, held, leaves_of};
+    ghost use Rattle.page_leaves.specs.Shown.{in_front, IsAlone, IsFree, AreApart, IsSameAt, IsSameElsewhere, IsSameBut, IsSameButTwo};
+    ghost use Rattle.page_leaves.specs.Trees.{behind, leaf_of, held, both_put, AreLeavesKept, leaves_of};
 
     /// No leaves.
     pub fn new() -> Leaves
@@ -95,7 +95,7 @@ impl Leaves {
         requires { number < 2 ^ 24 }
         ensures front { (n : ℕ) → in_front self.new.front n ≡ in_front self.old.front n }
         ensures same { (n : ℕ) → behind self.new n ≡ behind self.old n }
-        ensures free { OnOk result ((n : ℕ) → n % 16 ≡ number % 16 → in_front self.new.aside n ≡ None) }
+        ensures free { OnOk result (IsFree self.new.aside number) }
         ensures count { steps.new ≤ steps.old + 4 }
     {
         let other = self.aside.occupant(number);
@@ -107,11 +107,11 @@ impl Leaves {
     // Lets what stands in front at the place of a number and what stands aside there change places.
     #[inline(always)]
     fn turn(&mut self, number: u32)
-        requires { (n : ℕ) → n % 16 ≡ number % 16 → (in_front self.old.front n ≡ None) ⊎ (in_front self.old.aside n ≡ None) }
+        requires { AreApart self.old.front self.old.aside number }
         ensures same { (n : ℕ) → leaf_of self.new n ≡ leaf_of self.old n }
-        ensures front { (n : ℕ) → n % 16 ≡ number % 16 → in_front self.new.front n ≡ in_front self.old.aside n }
-        ensures aside { (n : ℕ) → n % 16 ≡ number % 16 → in_front self.new.aside n ≡ in_front self.old.front n }
-        ensures others { (n : ℕ) → (n % 16 ≡ number % 16 → ⊥) → in_front self.new.front n ≡ in_front self.old.front n }
+        ensures front { IsSameAt self.old.aside self.new.front number }
+        ensures aside { IsSameAt self.old.front self.new.aside number }
+        ensures others { IsSameElsewhere self.old.front self.new.front number }
     {
         self.front.exchange(&mut self.aside, number);
     }
@@ -127,8 +127,8 @@ impl Leaves {
         requires number { number < 2 ^ 24 }
         requires away { in_front self.old.front number ≡ None }
         ensures same { (n : ℕ) → leaf_of self.new n ≡ leaf_of self.old n }
-        ensures alone { OnOk result ((n : ℕ) → n % 16 ≡ number % 16 → (n ≡ number → ⊥) → in_front self.new.front n ≡ None) }
-        ensures others { (n : ℕ) → (n % 16 ≡ number % 16 → ⊥) → in_front self.new.front n ≡ in_front self.old.front n }
+        ensures alone { OnOk result (IsAlone self.new.front number) }
+        ensures others { IsSameElsewhere self.old.front self.new.front number }
         ensures count { steps.new ≤ steps.old + 4 }
     {
         self.put_back(alloc, number, steps)?;
@@ -143,8 +143,8 @@ impl Leaves {
     fn turn_to(&mut self, number: u32) -> bool
         requires { in_front self.old.front number ≡ None }
         ensures same { (n : ℕ) → leaf_of self.new n ≡ leaf_of self.old n }
-        ensures alone { OnTrue result ((n : ℕ) → n % 16 ≡ number % 16 → (n ≡ number → ⊥) → in_front self.new.front n ≡ None) }
-        ensures others { (n : ℕ) → (n % 16 ≡ number % 16 → ⊥) → in_front self.new.front n ≡ in_front self.old.front n }
+        ensures alone { OnTrue result (IsAlone self.new.front number) }
+        ensures others { IsSameElsewhere self.old.front self.new.front number }
         ensures refused { OnFalse result (in_front self.new.front number ≡ None) }
     {
         if !self.aside.stands(number) {
@@ -164,8 +164,8 @@ impl Leaves {
     ) -> Result<(), AllocError>
         requires { number < 2 ^ 24 }
         ensures same { (n : ℕ) → leaf_of self.new n ≡ leaf_of self.old n }
-        ensures alone { OnOk result ((n : ℕ) → n % 16 ≡ number % 16 → (n ≡ number → ⊥) → in_front self.new.front n ≡ None) }
-        ensures others { (n : ℕ) → (n % 16 ≡ number % 16 → ⊥) → in_front self.new.front n ≡ in_front self.old.front n }
+        ensures alone { OnOk result (IsAlone self.new.front number) }
+        ensures others { IsSameElsewhere self.old.front self.new.front number }
         ensures count { steps.new ≤ steps.old + 4 }
     {
         if self.front.stands(number) {
@@ -194,7 +194,7 @@ impl Leaves {
         requires { a % 256 + length bytes.now ≤ 256 }
         ensures written { OnTrue result (held self.new ≡ after_puts (held self.old) a bytes.now) }
         ensures refused { OnFalse result (held self.new ≡ held self.old) }
-        ensures others { (n : ℕ) → (n ≡ a / 256 → ⊥) → in_front self.new.front n ≡ in_front self.old.front n }
+        ensures others { IsSameBut self.old.front self.new.front (a / 256) }
         ensures leaves { (n : ℕ) → (n ≡ a / 256 → ⊥) → leaf_of self.new n ≡ leaf_of self.old n }
     {
         self.front.write(a / 256, (a % 256) as u8, bytes)
@@ -228,9 +228,9 @@ impl Leaves {
         requires border { a % 256 + length here.now ≡ 256 }
         requires next { next ≡ (a + length here.now) % 2 ^ 32 }
         requires later { length later.now ≤ 256 }
-        ensures written { OnTrue result (held self.new ≡ after_puts (after_puts (held self.old) a here.now) next later.now) }
+        ensures written { OnTrue result (held self.new ≡ both_put (held self.old) a here.now next later.now) }
         ensures refused { OnFalse result (held self.new ≡ held self.old) }
-        ensures leaves { (n : ℕ) → (n ≡ a / 256 → ⊥) → (n ≡ next / 256 → ⊥) → leaf_of self.new n ≡ leaf_of self.old n }
+        ensures leaves { AreLeavesKept self.old self.new a next }
     {
         self.draw(a / 256);
         self.draw(next / 256);
@@ -244,9 +244,9 @@ impl Leaves {
         requires border { a % 256 + length here.now ≡ 256 }
         requires next { next ≡ (a + length here.now) % 2 ^ 32 }
         requires later { length later.now ≤ 256 }
-        ensures written { OnTrue result (held self.new ≡ after_puts (after_puts (held self.old) a here.now) next later.now) }
+        ensures written { OnTrue result (held self.new ≡ both_put (held self.old) a here.now next later.now) }
         ensures refused { OnFalse result (held self.new ≡ held self.old) }
-        ensures leaves { (n : ℕ) → (n ≡ a / 256 → ⊥) → (n ≡ next / 256 → ⊥) → leaf_of self.new n ≡ leaf_of self.old n }
+        ensures leaves { AreLeavesKept self.old self.new a next }
     {
         self.write_two(a, here, next, later) || self.write_two_near(a, here, next, later)
     }
@@ -258,10 +258,10 @@ impl Leaves {
         requires border { a % 256 + length here.now ≡ 256 }
         requires next { next ≡ (a + length here.now) % 2 ^ 32 }
         requires later { length later.now ≤ 256 }
-        ensures written { OnTrue result (held self.new ≡ after_puts (after_puts (held self.old) a here.now) next later.now) }
+        ensures written { OnTrue result (held self.new ≡ both_put (held self.old) a here.now next later.now) }
         ensures refused { OnFalse result (held self.new ≡ held self.old) }
-        ensures others { (n : ℕ) → (n ≡ a / 256 → ⊥) → (n ≡ next / 256 → ⊥) → in_front self.new.front n ≡ in_front self.old.front n }
-        ensures leaves { (n : ℕ) → (n ≡ a / 256 → ⊥) → (n ≡ next / 256 → ⊥) → leaf_of self.new n ≡ leaf_of self.old n }
+        ensures others { IsSameButTwo self.old.front self.new.front (a / 256) (next / 256) }
+        ensures leaves { AreLeavesKept self.old self.new a next }
     {
         self.front
             .write_both(a / 256, (a % 256) as u8, here, next / 256, later)
@@ -276,11 +276,11 @@ impl Leaves {
         steps: &mut Steps<L>,
     ) -> Result<(), AllocError>
         requires fits { a % 256 + length bytes.now ≤ 256 }
-        requires alone { (n : ℕ) → n % 16 ≡ a / 256 % 16 → (n ≡ a / 256 → ⊥) → in_front self.old.front n ≡ None }
+        requires alone { IsAlone self.old.front (a / 256) }
         ensures ok { OnOk result (held self.new ≡ after_puts (held self.old) a bytes.now) }
         ensures err { OnErr result (held self.new ≡ held self.old) }
         ensures leaves { (n : ℕ) → (n ≡ a / 256 → ⊥) → leaf_of self.new n ≡ leaf_of self.old n }
-        ensures others { (n : ℕ) → (n % 16 ≡ a / 256 % 16 → ⊥) → in_front self.new.front n ≡ in_front self.old.front n }
+        ensures others { IsSameElsewhere self.old.front self.new.front (a / 256) }
         ensures count { steps.new ≤ steps.old + 1 }
     {
         let mut image = self.bytes(a / 256);
@@ -299,11 +299,11 @@ impl Leaves {
         steps: &mut Steps<L>,
     ) -> Result<(), AllocError>
         requires fits { a % 256 + length bytes.now ≤ 256 }
-        requires alone { (n : ℕ) → n % 16 ≡ a / 256 % 16 → (n ≡ a / 256 → ⊥) → in_front self.old.front n ≡ None }
+        requires alone { IsAlone self.old.front (a / 256) }
         ensures ok { OnOk result (held self.new ≡ after_puts (held self.old) a bytes.now) }
         ensures err { OnErr result (held self.new ≡ held self.old) }
         ensures leaves { (n : ℕ) → (n ≡ a / 256 → ⊥) → leaf_of self.new n ≡ leaf_of self.old n }
-        ensures others { (n : ℕ) → (n % 16 ≡ a / 256 % 16 → ⊥) → in_front self.new.front n ≡ in_front self.old.front n }
+        ensures others { IsSameElsewhere self.old.front self.new.front (a / 256) }
         ensures count { steps.new ≤ steps.old + 1 }
     {
         if self.write(a, bytes) {
@@ -345,11 +345,11 @@ impl Leaves {
         requires border { a % 256 + length here.now ≡ 256 }
         requires next { next ≡ (a + length here.now) % 2 ^ 32 }
         requires later { length later.now ≤ 256 }
-        requires first { (n : ℕ) → n % 16 ≡ a / 256 % 16 → (n ≡ a / 256 → ⊥) → in_front self.old.front n ≡ None }
-        requires second { (n : ℕ) → n % 16 ≡ next / 256 % 16 → (n ≡ next / 256 → ⊥) → in_front self.old.front n ≡ None }
-        ensures ok { OnOk result (held self.new ≡ after_puts (after_puts (held self.old) a here.now) next later.now) }
+        requires first { IsAlone self.old.front (a / 256) }
+        requires second { IsAlone self.old.front (next / 256) }
+        ensures ok { OnOk result (held self.new ≡ both_put (held self.old) a here.now next later.now) }
         ensures err { OnErr result (held self.new ≡ held self.old) }
-        ensures leaves { (n : ℕ) → (n ≡ a / 256 → ⊥) → (n ≡ next / 256 → ⊥) → leaf_of self.new n ≡ leaf_of self.old n }
+        ensures leaves { AreLeavesKept self.old self.new a next }
         ensures count { steps.new ≤ steps.old + 2 }
     {
         let mut image = self.bytes(next / 256);
@@ -374,9 +374,9 @@ impl Leaves {
         requires border { a % 256 + length here.now ≡ 256 }
         requires next { next ≡ (a + length here.now) % 2 ^ 32 }
         requires later { length later.now ≤ 256 }
-        ensures ok { OnOk result (held self.new ≡ after_puts (after_puts (held self.old) a here.now) next later.now) }
+        ensures ok { OnOk result (held self.new ≡ both_put (held self.old) a here.now next later.now) }
         ensures err { OnErr result (held self.new ≡ held self.old) }
-        ensures leaves { (n : ℕ) → (n ≡ a / 256 → ⊥) → (n ≡ next / 256 → ⊥) → leaf_of self.new n ≡ leaf_of self.old n }
+        ensures leaves { AreLeavesKept self.old self.new a next }
         ensures count { steps.new ≤ steps.old + 10 }
     {
         self.bring(alloc, next / 256, steps)?;

@@ -1,8 +1,8 @@
 //! The way from a root to a leaf, a level for each digit of the leaf's number: followed, laid anew, or left without
 //! its leaf.
-ghost use Rattle.std.specs.Prelude.{◌≡◌, ◌⊎◌, ◌+◌, ◌-◌, ◌/◌, ◌%◌, ◌^◌, ◌<◌, ◌≤◌, ◌==◌, if◌then◌else◌, ℕ, None, Some, IfOk, OnOk, OnErr, option_map};
+ghost use Rattle.std.specs.Prelude.{◌≡◌, ◌+◌, ◌-◌, ◌/◌, ◌%◌, ◌^◌, ◌<◌, ◌≤◌, ◌==◌, if◌then◌else◌, ℕ, None, Some, IfOk, OnOk, OnErr, option_map};
 ghost use Rattle.tree_node.specs.Nodes.{owned, child_at};
-ghost use Rattle.page_leaves.specs.Paths.{kid, leaf_below};
+ghost use Rattle.page_leaves.specs.Paths.{kid, leaf_below, IsRenewed, IsPlaced, IsSameBelow, IsGoneOrSame, AreSameBelow, AreOthersSame};
 
 use std::alloc::{AllocError, Global};
 use std::rc::Rc;
@@ -100,7 +100,7 @@ fn renewed<L: Ledger>(
     steps: &mut Steps<L>,
 ) -> Result<Rc<Node>, AllocError>
     requires { i < 64 }
-    ensures ok { IfOk result (λ node. (j : ℕ) → kid (Some node.value) j ≡ (if j == i then owned child else kid (owned slot.now) j)) }
+    ensures ok { IfOk result (λ node. IsRenewed (owned slot.now) (Some node.value) i (owned child)) }
     ensures count { steps.new ≤ steps.old + 1 }
 {
     let mut children = children_of(slot)?;
@@ -120,8 +120,8 @@ pub(crate) fn place<L: Ledger>(
 ) -> Result<(), AllocError>
     requires depth { depth ≤ 4 }
     requires number { number < 64 ^ depth }
-    ensures ok { OnOk result ((n : ℕ) → leaf_below depth (owned slot.new) n ≡ (if n == number then Some leaf.now.value else leaf_below depth (owned slot.old) n)) }
-    ensures err { OnErr result ((n : ℕ) → leaf_below depth (owned slot.new) n ≡ leaf_below depth (owned slot.old) n) }
+    ensures ok { OnOk result (IsPlaced depth (owned slot.old) (owned slot.new) number (Some leaf.now.value)) }
+    ensures err { OnErr result (AreSameBelow depth (owned slot.old) (owned slot.new)) }
     ensures count { steps.new ≤ steps.old + depth }
 {
     if depth == 0 {
@@ -157,9 +157,9 @@ pub(crate) fn take(
     requires depth { depth ≤ 4 }
     requires number { number < 64 ^ depth }
     ensures leaf { IfOk result (λ leaf. owned leaf ≡ leaf_below depth (owned slot.old) number) }
-    ensures others { (n : ℕ) → (n ≡ number → ⊥) → leaf_below depth (owned slot.new) n ≡ leaf_below depth (owned slot.old) n }
-    ensures here { (leaf_below depth (owned slot.new) number ≡ None) ⊎ (leaf_below depth (owned slot.new) number ≡ leaf_below depth (owned slot.old) number) }
-    ensures err { OnErr result (leaf_below depth (owned slot.new) number ≡ leaf_below depth (owned slot.old) number) }
+    ensures others { AreOthersSame depth (owned slot.old) (owned slot.new) number }
+    ensures here { IsGoneOrSame depth (owned slot.old) (owned slot.new) number }
+    ensures err { OnErr result (IsSameBelow depth (owned slot.old) (owned slot.new) number) }
 {
     if depth == 0 {
         return Ok(slot.take());

@@ -2,10 +2,8 @@
 //!
 //! A place is given by a leaf's number and by the region of 512 KiB that it lies in, so that leaves at the same place of
 //! regions that follow one another have places of their own: programs go through two halves of a large array at once.
-ghost use Rattle.std.specs.Prelude.{◌≡◌, ◌/◌, ◌%◌, ◌^◌, ◌<◌, ◌==◌, if◌then◌else◌, ℕ, None, Some, is_some, IfSome, slice_index, option_map};
-ghost use Rattle.cells.specs.Bytes.{number as spelt};
+ghost use Rattle.std.specs.Prelude.{◌≡◌, ◌/◌, ◌%◌, ◌^◌, ◌<◌, ◌==◌, if◌then◌else◌, ℕ, None, Some, is_some, IfSome, option_map};
 ghost use Rattle.tree_node.specs.Nodes.{owned, child_at};
-ghost use Rattle.page_leaves.specs.Paths.{leaf_bytes};
 ghost use Rattle.page_tree.specs.Spots.{spot};
 
 use std::rc::Rc;
@@ -34,7 +32,7 @@ fn spot_of(number: u32) -> usize
 }
 
 impl Recent {
-    ghost use Rattle.page_tree.specs.Shown.{in_recent};
+    ghost use Rattle.page_tree.specs.Shown.{in_recent, recent_word};
 
     /// No leaves.
     pub(crate) fn new() -> Recent
@@ -97,7 +95,7 @@ impl Recent {
     pub(crate) fn word(&self, a: u32) -> Option<u32>
         requires { a % 4 ≡ 0 }
         ensures there { is_some result ≡ is_some (in_recent self.now (a / 256)) }
-        ensures value { IfSome result (λ word. word ≡ spelt 4 (a % 256) (λ i. slice_index (leaf_bytes (in_recent self.now (a / 256))) i)) }
+        ensures value { IfSome result (λ word. word ≡ recent_word self.now a) }
     {
         match self.leaf(a / 256) {
             Some(leaf) => Some(leaf.word((a % 256) as u8)),

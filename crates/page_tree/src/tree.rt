@@ -3,7 +3,7 @@ ghost use Rattle.std.specs.Prelude.{◌≡◌, ◌+◌, ◌*◌, ◌/◌, ◌%�
 ghost use Rattle.std.specs.Bool.{OnTrue, OnFalse};
 ghost use Rattle.cells.specs.Bytes.{number as spelt, after_puts};
 ghost use Rattle.page_leaves.specs.Trees.{held};
-ghost use Rattle.page_tree.specs.Kept.{IsKept, IsLoaded};
+ghost use Rattle.page_tree.specs.Kept.{IsKept, IsLoaded, IsPut};
 ghost use Rattle.tree_node.specs.Nodes.{bytes_of};
 
 use crate::recent::Recent;
@@ -101,7 +101,7 @@ impl PageTree {
     #[inline(always)]
     fn write(&mut self, a: u32, bytes: &[u8]) -> bool
         requires { a % 256 + length bytes.now ≤ 256 }
-        ensures written { OnTrue result (held self.new.leaves ≡ after_puts (held self.old.leaves) a bytes.now) }
+        ensures written { OnTrue result (IsPut self.old.leaves self.new.leaves a bytes.now) }
         ensures refused { OnFalse result (held self.new.leaves ≡ held self.old.leaves) }
     {
         !self.code.has(a / 256) && !self.loaded.has(a / 256) && self.leaves.write(a, bytes)
@@ -112,7 +112,7 @@ impl PageTree {
     #[inline(never)]
     fn write_near(&mut self, a: u32, bytes: &[u8]) -> bool
         requires { length bytes.now ≤ 65536 }
-        ensures written { OnTrue result (held self.new.leaves ≡ after_puts (held self.old.leaves) a bytes.now) }
+        ensures written { OnTrue result (IsPut self.old.leaves self.new.leaves a bytes.now) }
         ensures refused { OnFalse result (held self.new.leaves ≡ held self.old.leaves) }
     {
         let end = (a % 256) as usize + bytes.len();
@@ -127,7 +127,7 @@ impl PageTree {
     fn write_over(&mut self, a: u32, bytes: &[u8]) -> bool
         requires over { 256 < a % 256 + length bytes.now }
         requires two { a % 256 + length bytes.now ≤ 512 }
-        ensures written { OnTrue result (held self.new.leaves ≡ after_puts (held self.old.leaves) a bytes.now) }
+        ensures written { OnTrue result (IsPut self.old.leaves self.new.leaves a bytes.now) }
         ensures refused { OnFalse result (held self.new.leaves ≡ held self.old.leaves) }
     {
         let room = 256 - a % 256;

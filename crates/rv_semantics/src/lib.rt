@@ -40,7 +40,8 @@ pub fn steps_are_local()
     ensures fetched { (prints : ℕ → Bool) → IsLocal (machine_in prints) }
     ensures given { (prints : ℕ → Bool) (word : ℕ) → IsLocal (exec_in prints word) }
     ensures fetched_flow { (c s : State) → SameSeen machine c.arch s.arch → flow_at s ≡ flow_at c }
-    ensures given_flow { (word : ℕ) (c s : Arch) → SameSeen (exec word) c s → flow_of word s ≡ flow_of word c }
+    ensures given_flow { (word : ℕ) (c s : Arch) → SameSeen (exec word) c s
+        → flow_of word s ≡ flow_of word c }
 {}
 
 /// Wherever a task may print, a step that it does is the run's step, and writes what that writes.
@@ -56,10 +57,12 @@ pub fn tasks_do_steps()
 /// greatest task limits are 16,384 steps and 4,096 steps: these are 163,840 and 1,081,344 cells.
 pub fn records_are_bounded()
     ensures quiet { (c : Arch) (t : ℕ) → IsAmong (recorded machine c t) (10 * t) }
-    ensures printing { (prints : ℕ → Bool) (c : Arch) (t : ℕ) → IsAmong (recorded (machine_in prints) c t) (264 * t) }
+    ensures printing { (prints : ℕ → Bool) (c : Arch) (t : ℕ)
+        → IsAmong (recorded (machine_in prints) c t) (264 * t) }
 {}
 
 /// What a step doesn't write stays, at calls too.
 pub fn unwritten_stays()
-    ensures { (s : State) (x : Cell) → is_over s ≡ false → is_pc x ≡ false → writes s x ≡ false → value (step s).arch x ≡ value s.arch x }
+    ensures { (s : State) (x : Cell) → is_over s ≡ false → is_pc x ≡ false → writes s x ≡ false
+        → value (step s).arch x ≡ value s.arch x }
 {}

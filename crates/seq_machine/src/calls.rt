@@ -96,7 +96,8 @@ impl<M: Memory> Machine<M> {
     /// Performs the call whose number is in x17.
     #[inline(never)]
     pub(crate) fn call(&mut self, alloc: Global) -> Result<(), AllocError>
-        ensures ok { OnOk result (state_of M.at self.new ≡ called (slice_index self.old.arch.regs 17) (state_of M.at self.old)) }
+        ensures ok { OnOk result
+            (state_of M.at self.new ≡ called (slice_index self.old.arch.regs 17) (state_of M.at self.old)) }
         ensures err { OnErr result (state_of M.at self.new ≡ state_of M.at self.old) }
         ensures position { self.new.position ≡ self.old.position }
     {
