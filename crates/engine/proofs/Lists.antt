@@ -1,9 +1,9 @@
 -- Lists of tasks: the slave's event, and that all are tasks of an image.
-use Rattle.std.proofs.Common.{◌≡◌, ℕ, ◌<◌, suc, zero, Bool, true, false, cond, not, ◌&&◌, List, [], ◌∷◌, ◌++◌, length, get_or, Option, Some, None, refl, sym, ap, ◌∙◌, arith}
+use Rattle.std.proofs.Common.{◌≡◌, ℕ, ◌<◌, suc, zero, Bool, true, false, cond, not, ◌&&◌, List, [], ◌∷◌, ◌++◌, length, get_or, Option, Some, None, refl, sym, ap, ◌∙◌, subst, arith}
 use Rattle.std.specs.Prelude.{map, is_some, nat_lt}
 use Rattle.std.specs.List.{position, position_or_len}
 use Rattle.std.proofs.lemmas.Bool.{ltb-false}
-use Rattle.std.proofs.lemmas.List.{map-append}
+use Rattle.std.proofs.lemmas.List.{length-map, map-append, get_or-map}
 use Rattle.std.proofs.lemmas.List.Sums.{fails_before_first}
 use Rattle.std.proofs.Math.ListN.{set}
 use Rattle.speculation.specs.declared.Effect.TheVariants.{Idle}
@@ -49,6 +49,13 @@ none_passes p xs e k d l = none_if_within (nat_lt (position_or_len p xs) (length
     none_if_within : (b : Bool) → nat_lt (position_or_len p xs) (length xs) ≡ b → cond b (Some (position_or_len p xs)) None ≡ None → p (get_or xs k d) ≡ false
     none_if_within true is h = absurd (cc)
     none_if_within false is h = let far = ltb-false (position_or_len p xs) (length xs) is in fails_before_first p xs k d (omega (arith, l, far))
+
+-- where no task was found, none passes in the list of what they show
+pub none_is : {X : Type 0} (f : X → Shown) (p : Shown → Bool) (xs : List X) → None ≡ position (λ t. p (f t)) xs → (k : ℕ) (d : Shown) → k < length (map f xs) → p (get_or (map f xs) k d) ≡ false
+none_is f p [] found k d l = absurd (omega (arith, l))
+none_is f p (x ∷ xs) found k d l =
+    let h : k < length (x ∷ xs) = subst (λ n. k < n) (length-map (x ∷ xs) f) l in
+    ap p (get_or-map f (x ∷ xs) k x d h) ∙ none_passes (λ t. p (f t)) (x ∷ xs) (sym found) k x h
 
 -- what passes is still running
 pub running : (b : Bool) (o : Option Ending) → (b && not (is_some o)) ≡ true → is_some o ≡ false

@@ -139,6 +139,10 @@ impl<M: Memory> Engine<M> {
         // Where speculation is given up a step is owed.
         ensures owed { (model_of M.at self.old).mode ≡ Mode.Speculating → (debt : Bool) → (model_of M.at self.new).mode ≡ Mode.Serial debt → debt ≡ true }
     {
+        if self.stage.rests(e) {
+            self.counts.events += 1;
+            return Ok(Effect::Idle);
+        }
         let effect = self.stage.happen(alloc, e)?;
         count(&mut self.counts, e, effect);
         Ok(effect)

@@ -101,9 +101,10 @@ impl<M: Memory> Stage<M> {
         }
     }
 
-    // The place of the task that runs on this slave. Numbers of tasks follow one another, so no other task is looked at.
+    /// The place of the task that runs on this slave. Numbers of tasks follow one another, so no
+    /// other task is looked at.
     #[inline(always)]
-    fn runner(&self, slave: u8) -> Option<usize>
+    pub(crate) fn runner(&self, slave: u8) -> Option<usize>
         requires few { length self.now.tasks.items ≤ self.now.slaves }
         requires numbers { AreNumbered self.now.next (tasks_modelled (shown M.at self.now).tasks) }
         ensures { result ≡ position (λ t. is_shown_run_by self.now.slaves slave (task_shown M.at t)) self.now.tasks.items }

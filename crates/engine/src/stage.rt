@@ -1,5 +1,5 @@
 //! What an engine is made of but for its counts, and an event on it.
-ghost use Rattle.std.specs.Prelude.{◌≡◌, ℕ, ◌+◌, ◌-◌, ◌^◌, ◌<◌, ◌≤◌, Bool, false, length, IfOk, OnOk, OnErr, IsNone};
+ghost use Rattle.std.specs.Prelude.{◌≡◌, ℕ, ◌+◌, ◌-◌, ◌^◌, ◌<◌, ◌≤◌, Bool, true, false, length, IfOk, OnOk, OnErr, IsNone};
 
 use dist_image::Image;
 use master::Master;
@@ -30,6 +30,7 @@ impl<M: Memory> Stage<M> {
     ghost use Rattle.cells.specs.Run.{is_over};
     ghost use Rattle.speculation.specs.Task.{steps_of};
     ghost use Rattle.speculation.specs.Kept.{AreNumbered};
+    ghost use Rattle.speculation_laws.specs.Told.{may_start, is_speculating, has_done_front};
     ghost use Rattle.dist_image.specs.Image.{IsImage};
     ghost use Rattle.engine.specs.Shown.{shown, tasks_modelled, AreTasksOf, Happens, IsCostly, given_up, at_rest};
 
@@ -60,6 +61,56 @@ impl<M: Memory> Stage<M> {
             Event::Master => self.drive(alloc),
             Event::Slave(j) => self.run(alloc, j),
             Event::Commit => self.commit(alloc),
+        }
+    }
+
+    /// Whether an event surely finds nothing to do, seen at once: of the events that are idle while
+    /// the machine goes on, only a restart where no anchor stands isn't seen here.
+    #[inline(always)]
+    pub(crate) fn rests(&self, e: Event) -> bool
+        requires few { length self.now.tasks.items ≤ self.now.slaves }
+        requires numbers { AreNumbered self.now.next (tasks_modelled (shown M.at self.now).tasks) }
+        ensures { result ≡ true → Happens self.now.image self.now.slaves e (shown M.at self.now) Effect.Idle (shown M.at self.now) }
+    {
+        match e {
+            Event::Restart => !self.may_start(),
+            Event::Serial => self.is_ahead(),
+            Event::Master => self.master.is_none(),
+            Event::Slave(j) => self.runner(j).is_none(),
+            Event::Commit => !self.has_done_front(),
+        }
+    }
+
+    // Whether speculation may begin: nothing is speculated on, and no step is owed.
+    #[inline(always)]
+    fn may_start(&self) -> bool
+        ensures { result ≡ may_start self.now.mode }
+    {
+        match self.mode {
+            Mode::Serial { debt } => !debt,
+            Mode::Speculating => false,
+        }
+    }
+
+    // Whether tasks or the master run ahead.
+    #[inline(always)]
+    fn is_ahead(&self) -> bool
+        ensures { result ≡ is_speculating self.now.mode }
+    {
+        match self.mode {
+            Mode::Serial { .. } => false,
+            Mode::Speculating => true,
+        }
+    }
+
+    // Whether the oldest task is done.
+    #[inline(always)]
+    fn has_done_front(&self) -> bool
+        ensures { result ≡ has_done_front (tasks_modelled (shown M.at self.now).tasks) }
+    {
+        match self.tasks.front() {
+            None => false,
+            Some(front) => front.ending().is_some(),
         }
     }
 

@@ -2,3 +2,4 @@ pub mod Keeps
 pub mod Worlds
 pub mod Calls
 pub mod Bounds
+pub mod Gaps

@@ -1,9 +1,9 @@
 //! A task and its events.
-ghost use Rattle.std.specs.Prelude.{◌≡◌, ℕ, ◌%◌};
-ghost use Rattle.dist_image.specs.Image.{IsImage, prints_at};
+ghost use Rattle.std.specs.Prelude.{◌≡◌, ℕ, ◌%◌, true, false, is_some};
+ghost use Rattle.dist_image.specs.Image.{IsImage, anchor_at, prints_at};
 
 use crate::did::{SlaveDid, did_of, ending_after, next_of};
-use dist_image::{Anchor, Image, anchor_at, prints_at};
+use dist_image::{Anchor, Image, prints_at};
 use layers::TaskView;
 use rv_semantics::is_short_write;
 use rv_step::{Memory, View};
@@ -21,6 +21,8 @@ pub struct Task<M: Memory> {
     left: u32,
     steps: u64,
     ending: Option<Ending>,
+    // How many anchors stood below the pc at the last look. Nothing rests on it: each look checks it.
+    below: usize,
     ghost aligned: { pc % 4 ≡ 0 },
 }
 
@@ -61,6 +63,7 @@ impl<M: Memory> Task<M> {
             left: anchor.count,
             steps: 0,
             ending: None,
+            below: 0,
         })
     }
 
@@ -190,10 +193,10 @@ impl<M: Memory> Task<M> {
     {
         match next {
             Some(to) => {
+                let (arrived, below) = look(image, self.below, to);
                 self.pc = to;
-                self.left = self
-                    .left
-                    .saturating_sub(u32::from(anchor_at(image, to).is_some()));
+                self.below = below;
+                self.left = self.left.saturating_sub(u32::from(arrived));
                 self.steps += 1;
                 self.ending = ending_after(self.left, self.steps, image.limit);
             }
@@ -209,4 +212,44 @@ fn may_print(image: &Image, pc: u32) -> bool
     ensures { result ≡ prints_at image.now pc }
 {
     !image.writes.is_empty() && prints_at(image, pc)
+}
+
+// Whether an anchor stands at this pc, and how many do below it. The number of the last look is tried before it is searched for.
+#[inline(always)]
+fn look(image: &Image, below: usize, pc: u32) -> (bool, usize)
+    requires { IsImage image.now }
+    ensures { result.0 ≡ is_some (anchor_at image.now pc) }
+{
+    if lies_between(image, below, pc) {
+        return (false, below);
+    }
+    search(image, pc)
+}
+
+// Whether a pc lies between two anchors that follow one another, of which so many stand below it.
+#[inline(always)]
+fn lies_between(image: &Image, below: usize, pc: u32) -> bool
+    requires { IsImage image.now }
+    ensures { result ≡ true → is_some (anchor_at image.now pc) ≡ false }
+{
+    let count = image.anchors.len();
+    if count < below {
+        return false;
+    }
+    if 0 < below && pc <= image.anchors[below - 1].pc {
+        return false;
+    }
+    below == count || pc < image.anchors[below].pc
+}
+
+// The same as `look`, by a binary search. An anchor at the pc is counted, too: the task goes on above it.
+#[inline(never)]
+fn search(image: &Image, pc: u32) -> (bool, usize)
+    requires { IsImage image.now }
+    ensures { result.0 ≡ is_some (anchor_at image.now pc) }
+{
+    match image.anchors.binary_search_by_key(&pc, |anchor| anchor.pc) {
+        Ok(place) => (true, place + 1),
+        Err(place) => (false, place),
+    }
 }

@@ -1,6 +1,7 @@
 -- By what happened on the stage, and what was counted.
-use Rattle.std.proofs.Common.{◌≡◌, ℕ, ◌≤◌, sym, subst}
+use Rattle.std.proofs.Common.{◌≡◌, ℕ, ◌+◌, ◌≤◌, sym, subst}
 use Rattle.speculation.specs.declared.Counts.{Counts}
+use Rattle.speculation.specs.declared.Effect.TheVariants.{Idle}
 use Rattle.speculation.specs.World.{World}
 use Rattle.speculation.specs.Kept.{Holds}
 use Rattle.dist_image.specs.Image.{Distilled, IsImage}
@@ -9,11 +10,95 @@ use Rattle.seq_machine.specs.States.{state_of}
 use Rattle.slave.proofs.Keeps.{on_err}
 use Rattle.engine.specs.Shown.{Shown, shown, modelled, AreTasksOf}
 use Rattle.engine.proofs.Kept.{sequential, position_is, squashed_few, serial_few, position_few, numbered, costly, counts_fit, answered, holds_after, told, idle, rises, owed}
+use Rattle.engine.proofs.Rests.{idle_counted}
 use Rattle.engine.proofs.engine.Engine.event.Goals as goal
 
 -- what is kept of a stage is kept of one that shows the same
 same_holds : (w : World) (s t : Shown) (c : Counts) → t ≡ s → ∥ Holds w (modelled s c) ∥₁ → ∥ Holds w (modelled t c) ∥₁
 same_holds w s t c e = subst (λ (x : Shown). ∥ Holds w (modelled x c) ∥₁) (sym e)
+
+pub rests-requires-clause-numbers : goal.rests-requires-clause-numbers
+rests-requires-clause-numbers g c =
+    let at = g.M.Memory.at in
+    let o = c.args.self.now in
+    numbered (world (state_of at o.start) o.stage.image o.stage.slaves) (modelled (shown at o.stage) o.counts) o.holds
+
+pub invariant_of-self : goal.invariant_of-self
+invariant_of-self g c =
+    let at = g.M.Memory.at in
+    let o = c.args.self.now in
+    record {
+      image = o.image;
+      some = o.some;
+      few = o.few;
+      tasks = o.tasks;
+      holds = holds_after (state_of at o.start) o.stage.image o.stage.slaves o.image o.some (shown at o.stage) o.counts o.holds c.args.e Idle (shown at o.stage) (c.rests.ensures c.if-rests.true) (record o.counts { events = o.counts.events + 1 }) (idle_counted c.args.e o.counts);
+    }
+
+pub returns-then-rests-clause-ok : goal.returns-then-rests-clause-ok
+returns-then-rests-clause-ok g c =
+    let at = g.M.Memory.at in
+    let o = c.args.self.now in
+    answered (state_of at o.start) o.stage.image o.stage.slaves o.image o.some (shown at o.stage) o.counts o.holds c.args.e Idle (shown at o.stage) (c.rests.ensures c.if-rests.true) (record o.counts { events = o.counts.events + 1 }) (idle_counted c.args.e o.counts)
+
+pub returns-then-rests-clause-rises : goal.returns-then-rests-clause-rises
+returns-then-rests-clause-rises g c =
+    let at = g.M.Memory.at in
+    let o = c.args.self.now in
+    rises (state_of at o.start) o.stage.image o.stage.slaves o.image o.some (shown at o.stage) o.counts o.holds c.args.e Idle (shown at o.stage) (c.rests.ensures c.if-rests.true) (record o.counts { events = o.counts.events + 1 }) (idle_counted c.args.e o.counts)
+
+pub returns-then-rests-clause-told : goal.returns-then-rests-clause-told
+returns-then-rests-clause-told g c =
+    let at = g.M.Memory.at in
+    let o = c.args.self.now in
+    told (state_of at o.start) o.stage.image o.stage.slaves o.image o.some (shown at o.stage) o.counts o.holds c.args.e Idle (shown at o.stage) (c.rests.ensures c.if-rests.true) (record o.counts { events = o.counts.events + 1 }) (idle_counted c.args.e o.counts)
+
+pub returns-then-rests-clause-idle : goal.returns-then-rests-clause-idle
+returns-then-rests-clause-idle g c =
+    let at = g.M.Memory.at in
+    let o = c.args.self.now in
+    idle (state_of at o.start) o.stage.image o.stage.slaves o.image o.some (shown at o.stage) o.counts o.holds c.args.e Idle (shown at o.stage) (c.rests.ensures c.if-rests.true) (record o.counts { events = o.counts.events + 1 }) (idle_counted c.args.e o.counts)
+
+pub returns-then-rests-clause-owed : goal.returns-then-rests-clause-owed
+returns-then-rests-clause-owed g c =
+    let at = g.M.Memory.at in
+    let o = c.args.self.now in
+    owed (state_of at o.start) o.stage.image o.stage.slaves o.image o.some (shown at o.stage) o.counts o.holds c.args.e Idle (shown at o.stage) (c.rests.ensures c.if-rests.true) (record o.counts { events = o.counts.events + 1 }) (idle_counted c.args.e o.counts)
+
+pub returns-then-rests-clause-sequential : goal.returns-then-rests-clause-sequential
+returns-then-rests-clause-sequential g c =
+    let at = g.M.Memory.at in
+    let o = c.args.self.now in
+    sequential (world (state_of at o.start) o.stage.image o.stage.slaves) (modelled (shown at o.stage) (record o.counts { events = o.counts.events + 1 }))
+    (holds_after (state_of at o.start) o.stage.image o.stage.slaves o.image o.some (shown at o.stage) o.counts o.holds c.args.e Idle (shown at o.stage) (c.rests.ensures c.if-rests.true) (record o.counts { events = o.counts.events + 1 }) (idle_counted c.args.e o.counts))
+
+pub returns-then-rests-clause-position : goal.returns-then-rests-clause-position
+returns-then-rests-clause-position g c =
+    let at = g.M.Memory.at in
+    let o = c.args.self.now in
+    position_is (world (state_of at o.start) o.stage.image o.stage.slaves) (modelled (shown at o.stage) (record o.counts { events = o.counts.events + 1 }))
+    (holds_after (state_of at o.start) o.stage.image o.stage.slaves o.image o.some (shown at o.stage) o.counts o.holds c.args.e Idle (shown at o.stage) (c.rests.ensures c.if-rests.true) (record o.counts { events = o.counts.events + 1 }) (idle_counted c.args.e o.counts))
+
+pub returns-then-rests-clause-squashed : goal.returns-then-rests-clause-squashed
+returns-then-rests-clause-squashed g c =
+    let at = g.M.Memory.at in
+    let o = c.args.self.now in
+    squashed_few (world (state_of at o.start) o.stage.image o.stage.slaves) (modelled (shown at o.stage) (record o.counts { events = o.counts.events + 1 }))
+    (holds_after (state_of at o.start) o.stage.image o.stage.slaves o.image o.some (shown at o.stage) o.counts o.holds c.args.e Idle (shown at o.stage) (c.rests.ensures c.if-rests.true) (record o.counts { events = o.counts.events + 1 }) (idle_counted c.args.e o.counts))
+
+pub returns-then-rests-clause-serial : goal.returns-then-rests-clause-serial
+returns-then-rests-clause-serial g c =
+    let at = g.M.Memory.at in
+    let o = c.args.self.now in
+    serial_few (world (state_of at o.start) o.stage.image o.stage.slaves) (modelled (shown at o.stage) (record o.counts { events = o.counts.events + 1 }))
+    (holds_after (state_of at o.start) o.stage.image o.stage.slaves o.image o.some (shown at o.stage) o.counts o.holds c.args.e Idle (shown at o.stage) (c.rests.ensures c.if-rests.true) (record o.counts { events = o.counts.events + 1 }) (idle_counted c.args.e o.counts))
+
+pub returns-then-rests-clause-events : goal.returns-then-rests-clause-events
+returns-then-rests-clause-events g c =
+    let at = g.M.Memory.at in
+    let o = c.args.self.now in
+    position_few (world (state_of at o.start) o.stage.image o.stage.slaves) (modelled (shown at o.stage) (record o.counts { events = o.counts.events + 1 }))
+    (holds_after (state_of at o.start) o.stage.image o.stage.slaves o.image o.some (shown at o.stage) o.counts o.holds c.args.e Idle (shown at o.stage) (c.rests.ensures c.if-rests.true) (record o.counts { events = o.counts.events + 1 }) (idle_counted c.args.e o.counts))
 
 pub happen-requires-clause-numbers : goal.happen-requires-clause-numbers
 happen-requires-clause-numbers g c =

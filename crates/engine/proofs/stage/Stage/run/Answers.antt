@@ -1,5 +1,5 @@
 -- The first task that runs there takes its step.
-use Rattle.std.proofs.Common.{◌≡◌, ℕ, ◌<◌, Bool, true, false, List, [], ◌∷◌, length, get_or, Some, None, sym, ap, ◌∙◌, subst, arith}
+use Rattle.std.proofs.Common.{◌≡◌, ℕ, ◌<◌, Bool, true, false, List, length, get_or, Some, None, sym, ap, ◌∙◌, subst, arith}
 use Rattle.std.specs.Prelude.{map}
 use Rattle.std.specs.List.{position}
 use Rattle.std.specs.Coded.{le_prop}
@@ -16,7 +16,7 @@ use Rattle.slave.specs.Task.{Shown as TaskShown, modelled as task_modelled, IsTa
 use Rattle.slave.specs.Task.{shown as task_shown}
 use Rattle.engine.specs.Shown.{shown, is_shown_run_by, AreTasksOf}
 use Rattle.engine.proofs.Sets.{Task-set}
-use Rattle.engine.proofs.Lists.{none_passes, running, none_of, task_at, tasks_set}
+use Rattle.engine.proofs.Lists.{none_is, running, none_of, task_at, tasks_set}
 use Rattle.engine.proofs.Masters.{does_by}
 use Rattle.engine.proofs.Runs.{has_room, does_rest, does_run, costly_run}
 use Rattle.engine.proofs.stage.Stage.run.Goals as goal
@@ -38,13 +38,6 @@ first_is f p xs i x found is =
       passes = ap (λ t. p (f t)) is ∙ h.1;
       before = λ n d l. ap p (get_or-map f xs n x d (let t = h.0 in omega (arith, l, t))) ∙ h.2 n l;
     }
-
--- and where nothing was found
-none_is : {X : Type 0} (f : X → TaskShown) (p : TaskShown → Bool) (xs : List X) → None ≡ position (λ t. p (f t)) xs → (k : ℕ) (d : TaskShown) → k < length (map f xs) → p (get_or (map f xs) k d) ≡ false
-none_is f p [] found k d l = absurd (omega (arith, l))
-none_is f p (x ∷ xs) found k d l =
-    let h : k < length (x ∷ xs) = subst (λ n. k < n) (length-map (x ∷ xs) f) l in
-    ap p (get_or-map f (x ∷ xs) k x d h) ∙ none_passes (λ t. p (f t)) (x ∷ xs) (sym found) k x h
 
 pub advance-requires-clause-running : goal.advance-requires-clause-running
 advance-requires-clause-running g c =
