@@ -1,15 +1,9 @@
 //! Makes the image of the first so many steps of a run.
 
-ghost use Rattle.std.specs.Prelude.{◌≡◌, ◌≤◌, ◌+◌, ◌^◌, true, false, OnOk, IfOk, IfErr, IfSome};
-ghost use Rattle.cells.specs.Run.{is_over};
-ghost use Rattle.seq_machine.specs.Parts.{start_of};
-ghost use Rattle.fitting.specs.Fails.{state_at};
-ghost use Rattle.profile_laws.specs.Profiles.{with_mark, IsWide};
-ghost use Rattle.profile_laws.specs.Tally.{kept};
+ghost use Rattle.std.specs.Prelude.{◌≡◌, ◌≤◌, ◌+◌, ◌^◌, true, OnOk, IfOk, IfErr, IfSome};
 ghost use Rattle.profiler.specs.declared.error.ProfilingErr.TheVariants.{Wide};
-ghost use Rattle.adapt.specs.Made.{made};
 ghost use Rattle.adapt.specs.Laws.{IsMade};
-ghost use Rattle.adapt.specs.Behind.{IsBehind};
+ghost use Rattle.adapt.specs.Behind.{IsBehind, IsRunningAt, IsWideAt, image_at};
 
 use dist_image::Image;
 use distiller::{DistillErr, Options, distill};
@@ -29,12 +23,11 @@ const OPTIONS: Options = Options {
 fn record_to(alloc: Global, recorder: &mut Recorder, position: u64) -> Result<(), ProfilingErr>
     requires position { position ≤ 10 ^ 12 + 16_383 }
     requires below { recorder.old.position ≤ position }
-    requires running { is_over (state_at (start_of recorder.old.program recorder.old.input) position) ≡ false }
+    requires running { IsRunningAt recorder.old position }
     ensures same { recorder.new ≡ record recorder.old { position = recorder.new.position } }
     ensures within { recorder.new.position ≤ position }
     ensures there { OnOk result (recorder.new.position ≡ position) }
-    ensures wide { IfErr result (λ e. e ≡ Wide →
-        IsWide (kept (with_mark recorder.old.calls) (start_of recorder.old.program recorder.old.input) position).rows) }
+    ensures wide { IfErr result (λ e. e ≡ Wide → IsWideAt recorder.old position) }
 {
     while recorder.steps() < position {
         recorder.one(alloc)?;
@@ -46,7 +39,7 @@ fn record_to(alloc: Global, recorder: &mut Recorder, position: u64) -> Result<()
 fn image_of(alloc: Global, recorder: &Recorder) -> Result<Option<Image>, AllocError>
     requires position { recorder.now.position ≤ 10 ^ 12 + 16_383 }
     requires calls { recorder.now.calls ≡ true }
-    ensures image { IfOk result (λ image. image ≡ made recorder.now.program (start_of recorder.now.program recorder.now.input) recorder.now.position) }
+    ensures image { IfOk result (λ image. image ≡ image_at recorder.now recorder.now.position) }
     ensures made { IfOk result (λ image. IfSome image (IsMade recorder.now.program)) }
 {
     let profile = recorder.profile(alloc)?;
@@ -68,10 +61,10 @@ pub(crate) fn make(
 ) -> Result<Option<Image>, AllocError>
     requires position { position ≤ 10 ^ 12 + 16_383 }
     requires behind { IsBehind recorder.old position wide.old }
-    requires running { is_over (state_at (start_of recorder.old.program recorder.old.input) position) ≡ false }
+    requires running { IsRunningAt recorder.old position }
     ensures same { recorder.new ≡ record recorder.old { position = recorder.new.position } }
     ensures behind { IsBehind recorder.new position wide.new }
-    ensures image { IfOk result (λ image. image ≡ made recorder.old.program (start_of recorder.old.program recorder.old.input) position) }
+    ensures image { IfOk result (λ image. image ≡ image_at recorder.old position) }
     ensures made { IfOk result (λ image. IfSome image (IsMade recorder.old.program)) }
 {
     if *wide {

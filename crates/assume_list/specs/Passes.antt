@@ -1,7 +1,12 @@
 -- What is known of a run once it was looked at up to a position.
-use Rattle.std.specs.Prelude.{◌≡◌, ℕ, ◌+◌, ◌<◌, ◌≤◌, min, suc, nat_lt, if◌then◌else◌, Bool, false, true, List, [], Option, Some, None, ◌⊎◌}
-use Rattle.cells.specs.Run.{State, is_over}
+use Rattle.std.specs.Prelude.{◌≡◌, ℕ, ◌+◌, ◌<◌, ◌≤◌, min, suc, nat_lt, not, ◌&&◌, ◌||◌, if◌then◌else◌, Bool, false, true, List, [], length, Option, Some, None, ◌⊎◌}
+use Rattle.cells.specs.Run.{State, is_end, is_over}
+use Rattle.memory.specs.declared.Memory.{Ghosts}
+use Rattle.seq_machine.specs.declared.machine.Machine.{Machine}
+use Rattle.seq_machine.specs.States.{state_of}
 use Rattle.dist_image.specs.Image.{Premise, Span, Distilled}
+use Rattle.image_semantics.specs.World.{count_of}
+use Rattle.fitting.specs.Fits.{is_anchor_pc}
 use Rattle.fitting.specs.Fails.{state_at}
 use Rattle.assumption_laws.specs.declared.Waiting.{Waiting}
 use Rattle.assumption_laws.specs.Looks.{first_failing, span_fails}
@@ -11,6 +16,11 @@ use Rattle.assume_list.specs.declared.verdict.Verdict.{Verdict}
 use Rattle.assume_list.specs.declared.verdict.Verdict.TheVariants.{Broken}
 use Rattle.assume_list.specs.declared.passing.Passed.{Passed}
 use Rattle.assume_list.specs.declared.passing.Passed.TheVariants.{Late, Failed, Through}
+use Rattle.assume_list.specs.declared.passing.Asked.{Asked}
+use Rattle.assume_list.specs.declared.passing.Turn.{Turn}
+use Rattle.assume_list.specs.declared.waits.Waits.{Waits}
+use Rattle.assume_list.specs.declared.watch.Watch.{Watch}
+use Rattle.assume_list.specs.Shown.{shown}
 
 -- the anchors that wait were `old`. One has waited for the whole limit since position i, or they go on to wait by a step
 abbrev pub HasTurned : ℕ → ℕ → ℕ → Option ℕ → Bool → Bool → List Waiting → List Waiting → Option ℕ → Type 0
@@ -91,3 +101,32 @@ module _ (start : State) (image : Distilled) where
   abbrev pub IsAwaited : ℕ → Option ℕ → Type 0
   IsAwaited bound None = (i : ℕ) → i < bound → is_over (state_at start i) ≡ false → span_fails start image i ≡ false
   IsAwaited bound (Some i) = IsLate bound i
+
+-- ---- the same of what the code has
+
+-- the anchors that wait once the one joins that is at a position
+abbrev pub with_here : ℕ → ℕ → Option ℕ → Waits → List Waiting
+with_here bound position here w = joined bound position here (shown w)
+
+-- whether one of them has waited for the whole limit
+abbrev pub is_late : ℕ → ℕ → Option ℕ → Waits → Bool
+is_late bound position here w = is_overdue w.limit position (with_here bound position here w)
+
+-- a turn took the anchors that wait from the old ones to the new ones
+abbrev pub IsTurned : Distilled → ℕ → Turn → Waits → Waits → Option ℕ → Type 0
+IsTurned image bound t old new late =
+    HasTurned image.limit bound t.position (count_of image t.pc) t.stops (is_anchor_pc image t.next) (shown old) (shown new) late
+
+-- the run goes on before `last`, and is below the bound, or an anchor waits
+abbrev pub is_awaited : {M : Type 0} {d : Ghosts M} → Machine M d → Waits → ℕ → ℕ → Bool
+is_awaited m w bound last =
+    not (is_end m.end) && (nat_lt m.position last && (nat_lt m.position bound || nat_lt 0 (length (shown w))))
+
+-- a pass over the positions below a budget took one watch to another, and came to this
+abbrev pub IsPassed : {M : Type 0} {d : Ghosts M} → (M → ℕ → ℕ) → Distilled → ℕ → Asked → Watch M d → Watch M d → Waits → Passed → Type 0
+IsPassed at image budget asked old new w passed =
+    HasPassed (state_of at old.machine) image budget asked.bound asked.span new.machine.position (state_of at new.machine) (shown w) passed
+
+-- the run from a start has come to where a machine is
+abbrev pub HasCome : {M : Type 0} {d : Ghosts M} → (M → ℕ → ℕ) → State → Distilled → ℕ → Machine M d → Waits → Type 0
+HasCome at start image bound m w = IsReached start image bound m.position (state_of at m) (shown w)

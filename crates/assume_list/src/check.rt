@@ -6,11 +6,9 @@ ghost use Rattle.elf_reader.specs.Executable.{IsProgram};
 ghost use Rattle.seq_machine.specs.States.{state_of};
 ghost use Rattle.seq_machine.specs.Parts.{start_of};
 ghost use Rattle.dist_image.specs.Image.{premise, IsImage};
-ghost use Rattle.access_trace.specs.Shadows.{mark_at};
 ghost use Rattle.assumption_laws.specs.Looks.{first_from};
-ghost use Rattle.assume_list.specs.Marks.{dead_in};
 ghost use Rattle.assume_list.specs.Sights.{is_code, is_within, is_same};
-ghost use Rattle.assume_list.specs.Watched.{IsWatched};
+ghost use Rattle.assume_list.specs.Watched.{IsBegun};
 ghost use Rattle.assume_list.specs.Passes.{is_span, bound_of, or_late};
 ghost use Rattle.assume_list.specs.Verdicts.{IsVerdict};
 
@@ -79,7 +77,7 @@ fn judge<M: Memory>(
     requires code { watch.old.listed.code ≡ list_any is_code image.now.assumptions }
     requires within { watch.old.listed.within ≡ list_any is_within image.now.assumptions }
     requires same { watch.old.listed.same ≡ list_any is_same image.now.assumptions }
-    requires watched { IsWatched (state_of M.at watch.old.machine) image.now watch.old.machine.position (state_of M.at watch.old.machine) (M.at watch.old.program) (dead_in image.now.assumptions) (mark_at M.at watch.old.marks) watch.old.analysed }
+    requires watched { IsBegun M.at image.now watch.old }
     ensures verdict { IfOk result (IsVerdict (state_of M.at watch.old.machine) image.now budget) }
     ensures steps { watch.new.machine.position ≤ budget + image.now.limit }
 {

@@ -1,22 +1,16 @@
 //! The pass over the positions of a run, and the wait for the anchors that stand before them.
 
-ghost use Rattle.std.specs.Prelude.{◌≡◌, ◌+◌, ◌-◌, ◌<◌, ◌≤◌, ◌^◌, max, [], length, ◌&&◌, ◌||◌, not, nat_lt, OnOk, IfOk, IsNone};
+ghost use Rattle.std.specs.Prelude.{◌≡◌, ◌+◌, ◌-◌, ◌<◌, ◌≤◌, ◌^◌, max, [], ◌&&◌, not, nat_lt, OnOk, IfOk, IsNone};
 ghost use Rattle.std.specs.List.{list_any};
 ghost use Rattle.cells.specs.Run.{State, is_end};
-ghost use Rattle.rv_semantics.specs.Machine.{word_at};
-ghost use Rattle.rv_word.specs.Meaning.{meaning};
-ghost use Rattle.assume_list.specs.Sights.{is_code, is_within, is_same, is_stopping_call};
+ghost use Rattle.assume_list.specs.Sights.{is_code, is_within, is_same, is_at_call, is_at_stop};
 ghost use Rattle.rv_semantics.specs.Calls.{step as next_state};
-ghost use Rattle.seq_machine.specs.States.{arch_at, state_of};
-ghost use Rattle.dist_image.specs.Image.{IsImage, prints_at};
-ghost use Rattle.image_semantics.specs.World.{task_machine, count_of};
-ghost use Rattle.fitting.specs.Fits.{is_anchor_pc};
-ghost use Rattle.access_trace.specs.Shadows.{mark_at};
-ghost use Rattle.assume_list.specs.Watched.{IsWatched};
-ghost use Rattle.assume_list.specs.Marks.{dead_in};
+ghost use Rattle.seq_machine.specs.States.{state_of};
+ghost use Rattle.dist_image.specs.Image.{IsImage};
+ghost use Rattle.assume_list.specs.Watched.{IsBegun};
 ghost use Rattle.assume_list.specs.Places.{AreKnown};
 ghost use Rattle.assume_list.specs.Shown.{IsEarly, shown};
-ghost use Rattle.assume_list.specs.Passes.{HasTurned, asked_below, bound_after, HasPassed, IsReached, IsAwaited, IsAwake};
+ghost use Rattle.assume_list.specs.Passes.{asked_below, bound_after, is_awaited, IsTurned, IsPassed, HasCome, IsAwaited, IsAwake};
 
 use crate::instruction::is_stopping_call;
 use crate::pcs::Pcs;
@@ -96,7 +90,7 @@ fn take_turn(
     requires arrivals { waits.old.arrivals ≤ turn.position }
     requires early { IsEarly waits.old.due waits.old.limit (shown waits.old) }
     requires limit { waits.old.limit ≡ image.now.limit }
-    ensures turned { IfOk result (HasTurned image.now.limit bound turn.position (count_of image.now turn.pc) turn.stops (is_anchor_pc image.now turn.next) (shown waits.old) (shown waits.new)) }
+    ensures turned { IfOk result (IsTurned image.now bound turn waits.old waits.new) }
     ensures known { AreKnown pcs.new image.now }
     ensures arrivals { OnOk result (waits.new.arrivals ≤ turn.position + 1) }
     ensures early { OnOk result (IsEarly waits.new.due waits.new.limit (shown waits.new)) }
@@ -129,12 +123,12 @@ pub(crate) fn pass<M: Memory>(
     requires code { watch.old.listed.code ≡ list_any is_code image.now.assumptions }
     requires within { watch.old.listed.within ≡ list_any is_within image.now.assumptions }
     requires same { watch.old.listed.same ≡ list_any is_same image.now.assumptions }
-    requires watched { IsWatched (state_of M.at watch.old.machine) image.now watch.old.machine.position (state_of M.at watch.old.machine) (M.at watch.old.program) (dead_in image.now.assumptions) (mark_at M.at watch.old.marks) watch.old.analysed }
+    requires watched { IsBegun M.at image.now watch.old }
     requires none { shown waits.old ≡ [] }
     requires arrivals { waits.old.arrivals ≡ 0 }
     requires early { IsEarly waits.old.due waits.old.limit (shown waits.old) }
     requires limit { waits.old.limit ≡ image.now.limit }
-    ensures passed { IfOk result (HasPassed (state_of M.at watch.old.machine) image.now budget asked.bound asked.span watch.new.machine.position (state_of M.at watch.new.machine) (shown waits.new)) }
+    ensures passed { IfOk result (IsPassed M.at image.now budget asked watch.old watch.new waits.new) }
     ensures position { watch.new.machine.position ≤ budget }
     ensures known { AreKnown pcs.new image.now }
     ensures arrivals { OnOk result (waits.new.arrivals ≤ watch.new.machine.position) }
@@ -171,7 +165,7 @@ fn is_at_call<M: Memory>(machine: &mut Machine<M>, image: &Image, pcs: &mut Pcs)
     ensures state { state_of M.at machine.new ≡ state_of M.at machine.old }
     ensures position { machine.new.position ≡ machine.old.position }
     ensures known { AreKnown pcs.new image.now }
-    ensures calls { result ≡ is_stopping_call (prints_at image.now) (meaning (word_at (arch_at M.at machine.old.arch))) (arch_at M.at machine.old.arch) }
+    ensures calls { result ≡ is_at_call M.at image.now machine.old }
 {
     let pc = machine.arch.pc;
     let inst = decode(machine.arch.mem.fetch(pc));
@@ -194,7 +188,7 @@ fn step_on<M: Memory>(
     ensures position { OnOk result (machine.new.position ≡ machine.old.position + 1) }
     ensures near { machine.new.position ≤ machine.old.position + 1 }
     ensures known { AreKnown pcs.new image.now }
-    ensures stops { IfOk result (λ stops. stops ≡ (task_machine image.now).stops (arch_at M.at machine.old.arch)) }
+    ensures stops { IfOk result (λ stops. stops ≡ is_at_stop M.at image.now machine.old) }
 {
     let calls = is_at_call(machine, image, pcs);
     machine.one(alloc)?;
@@ -203,7 +197,7 @@ fn step_on<M: Memory>(
 
 // Whether Span may still turn out to fail below the bound: the run goes on, and an anchor waits or may still come.
 fn is_awaited<M: Memory>(machine: &Machine<M>, waits: &Waits, bound: u64, last: u64) -> bool
-    ensures { result ≡ (not (is_end machine.now.end) && (nat_lt machine.now.position last && (nat_lt machine.now.position bound || nat_lt 0 (length (shown waits.now))))) }
+    ensures { result ≡ is_awaited machine.now waits.now bound last }
 {
     machine.end.is_none()
         && machine.position < last
@@ -227,9 +221,10 @@ pub(crate) fn wait<M: Memory>(
     requires arrivals { waits.old.arrivals ≤ machine.old.position }
     requires early { IsEarly waits.old.due waits.old.limit (shown waits.old) }
     requires limit { waits.old.limit ≡ image.now.limit }
-    ensures awaited { (start : State) → IsReached start image.now bound machine.old.position (state_of M.at machine.old) (shown waits.old) → IfOk result (IsAwaited start image.now bound) }
+    ensures awaited { (start : State) → HasCome M.at start image.now bound machine.old waits.old
+        → IfOk result (IsAwaited start image.now bound) }
     ensures near { machine.new.position ≤ max machine.old.position (bound + image.now.limit) }
-    ensures idle { (start : State) → IsReached start image.now bound machine.old.position (state_of M.at machine.old) (shown waits.old)
+    ensures idle { (start : State) → HasCome M.at start image.now bound machine.old waits.old
         → OnOk result (IsAwake start image.now bound machine.old.position machine.new.position) }
 {
     let last = bound + u64::from(waits.limit);

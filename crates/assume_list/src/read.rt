@@ -1,9 +1,7 @@
 //! The marks of the bytes that an instruction reads.
 
-ghost use Rattle.std.specs.Prelude.{◌≡◌, ℕ, ◌+◌, [], ◌∷◌, ◌++◌, map, OnOk};
-ghost use Rattle.fitting.specs.Claims.{among};
-ghost use Rattle.profile_laws.specs.Tally.{places};
-ghost use Rattle.access_trace.specs.Shadows.{mark_at};
+ghost use Rattle.std.specs.Prelude.{[], ◌∷◌, ◌++◌, OnOk};
+ghost use Rattle.assume_list.specs.Marks.{HaveSame, marks_in, marks_read};
 
 use access_trace::{ByteRange, Shadow};
 use memory::Memory;
@@ -12,7 +10,7 @@ use std::alloc::AllocError;
 // Appends a mark, unless it is 0.
 #[inline(always)]
 fn append_one(mark: u32, to: &mut Vec<u32>) -> Result<(), AllocError>
-    ensures { OnOk result ((at : ℕ) → among to.new.items (at + 1) ≡ among (to.old.items ++ mark ∷ []) (at + 1)) }
+    ensures { OnOk result (HaveSame to.new.items (to.old.items ++ mark ∷ [])) }
 {
     if mark == 0 {
         return Ok(());
@@ -28,7 +26,7 @@ fn append_each<M: Memory>(
     span: ByteRange,
     to: &mut Vec<u32>,
 ) -> Result<(), AllocError>
-    ensures { OnOk result ((at : ℕ) → among to.new.items (at + 1) ≡ among (to.old.items ++ map (mark_at M.at shadow.now) (places span.count span.from)) (at + 1)) }
+    ensures { OnOk result (HaveSame to.new.items (to.old.items ++ marks_in M.at shadow.now span)) }
 {
     for i in 0..span.count {
         append_one(shadow.get(span.from.wrapping_add(i)), to)?;
@@ -43,7 +41,7 @@ fn append<M: Memory>(
     span: ByteRange,
     to: &mut Vec<u32>,
 ) -> Result<(), AllocError>
-    ensures { OnOk result ((at : ℕ) → among to.new.items (at + 1) ≡ among (to.old.items ++ map (mark_at M.at shadow.now) (places span.count span.from)) (at + 1)) }
+    ensures { OnOk result (HaveSame to.new.items (to.old.items ++ marks_in M.at shadow.now span)) }
 {
     if span.count == 0 {
         return Ok(());
@@ -61,7 +59,7 @@ pub(crate) fn read_marks<M: Memory>(
     loads: ByteRange,
     read: &mut Vec<u32>,
 ) -> Result<(), AllocError>
-    ensures { OnOk result ((at : ℕ) → among read.new.items (at + 1) ≡ among (map (mark_at M.at marks.now) (places 4 pc ++ places loads.count loads.from)) (at + 1)) }
+    ensures { OnOk result (HaveSame read.new.items (marks_read M.at marks.now pc loads)) }
 {
     read.clear();
     append(marks, ByteRange { count: 4, from: pc }, read)?;

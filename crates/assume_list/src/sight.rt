@@ -1,15 +1,15 @@
 //! What is looked at of a position of the run, and which assumption fails there.
 
-ghost use Rattle.std.specs.Prelude.{◌≡◌, ℕ, ◌+◌, ◌*◌, ◌<◌, ◌≤◌, ◌^◌, ◌&&◌, ◌||◌, not, nat_eq, Bool, false, List, Some, All, map, length, slice_get};
+ghost use Rattle.std.specs.Prelude.{◌≡◌, ℕ, ◌+◌, ◌*◌, ◌<◌, ◌≤◌, ◌^◌, not, nat_eq, false, Some, All, map, length};
 ghost use Rattle.std.specs.List.{list_any};
 ghost use Rattle.std.specs.List.Sorted.{IsStrictlyIncreasing};
-ghost use Rattle.dist_image.specs.Image.{Premise, Cut, Targets, Same, premise, key_of, IsPremise, IsImage};
+ghost use Rattle.dist_image.specs.Image.{premise, IsPremise, IsImage};
 ghost use Rattle.fitting.specs.Claims.{among};
 ghost use Rattle.fitting.specs.Fits.{is_analysed};
 ghost use Rattle.image_semantics.specs.World.{count_of};
 ghost use Rattle.assumption_laws.specs.Looks.{is_other, fails_by, first_from};
 ghost use Rattle.assume_list.specs.Marks.{dead_in};
-ghost use Rattle.assume_list.specs.Sights.{seen, is_code, is_within, is_same};
+ghost use Rattle.assume_list.specs.Sights.{seen, is_code, is_within, is_same, Tells, NoCutFails, NoTargetsFail, NoValueFails, whole_fails};
 
 use dist_image::{Assumption, Image, KIND, anchor_at, keyed, lists, slot_of};
 
@@ -138,7 +138,7 @@ pub(crate) fn claims_dead(image: &Image, pc: u32) -> bool
 #[inline(never)]
 fn keyed_fails(sight: &Sight, marks: &[u32], image: &Image, key: u64) -> bool
     requires { IsImage image.now }
-    ensures { (k : ℕ) (x : Premise) → slice_get image.now.assumptions k ≡ Some x → key_of x ≡ key → result ≡ fails_by (seen sight.now marks.now) x }
+    ensures { Tells image.now (seen sight.now marks.now) key result }
 {
     match keyed(image, key) {
         Some(x) => fails(sight, marks, x),
@@ -149,7 +149,7 @@ fn keyed_fails(sight: &Sight, marks: &[u32], image: &Image, key: u64) -> bool
 // Whether a cut fails.
 fn cut_fails(sight: &Sight, marks: &[u32], image: &Image) -> bool
     requires { IsImage image.now }
-    ensures { result ≡ false → (k at : ℕ) (taken : Bool) → slice_get image.now.assumptions k ≡ Some (Cut at taken) → fails_by (seen sight.now marks.now) (Cut at taken) ≡ false }
+    ensures { result ≡ false → NoCutFails image.now (seen sight.now marks.now) }
 {
     if sight.stops || sight.side.is_none() {
         return false;
@@ -160,7 +160,7 @@ fn cut_fails(sight: &Sight, marks: &[u32], image: &Image) -> bool
 // Whether the targets of a jump fail.
 fn targets_fail(sight: &Sight, marks: &[u32], image: &Image) -> bool
     requires { IsImage image.now }
-    ensures { result ≡ false → (k at : ℕ) (to : List ℕ) → slice_get image.now.assumptions k ≡ Some (Targets at to) → fails_by (seen sight.now marks.now) (Targets at to) ≡ false }
+    ensures { result ≡ false → NoTargetsFail image.now (seen sight.now marks.now) }
 {
     if sight.stops || !sight.jumps {
         return false;
@@ -172,7 +172,7 @@ fn targets_fail(sight: &Sight, marks: &[u32], image: &Image) -> bool
 fn value_fails(sight: &Sight, marks: &[u32], image: &Image, listed: bool) -> bool
     requires image { IsImage image.now }
     requires listed { listed ≡ list_any is_same image.now.assumptions }
-    ensures { result ≡ false → (k at value : ℕ) → slice_get image.now.assumptions k ≡ Some (Same at value) → fails_by (seen sight.now marks.now) (Same at value) ≡ false }
+    ensures { result ≡ false → NoValueFails image.now (seen sight.now marks.now) }
 {
     let Sight { pc, load, .. } = *sight;
     if !listed || load.is_none() {
@@ -183,7 +183,7 @@ fn value_fails(sight: &Sight, marks: &[u32], image: &Image, listed: bool) -> boo
 
 // Whether one that speaks of no single pc fails.
 fn whole_fails(sight: &Sight, listed: Listed) -> bool
-    ensures { result ≡ (sight.now.analysed && ((sight.now.changed && listed.code) || (not sight.now.stops && (not sight.now.stays && listed.within)))) }
+    ensures { result ≡ whole_fails sight.now listed }
 {
     sight.analysed
         && (sight.changed && listed.code || !sight.stops && !sight.stays && listed.within)

@@ -4,6 +4,7 @@ ghost use Rattle.std.specs.Prelude.{◌≡◌, ℕ, ◌+◌, ◌<◌, ◌≤◌,
 ghost use Rattle.std.specs.List.{filter};
 ghost use Rattle.assumption_laws.specs.Waits.{passed_on, joined, is_overdue};
 ghost use Rattle.assume_list.specs.Shown.{IsEarly, shown_in, shown};
+ghost use Rattle.assume_list.specs.Passes.{with_here, is_late};
 
 use std::alloc::{AllocError, Global};
 use std::mem::swap;
@@ -193,8 +194,9 @@ impl Waits {
         requires arrivals { self.old.arrivals ≤ position }
         requires some { (n : ℕ) → here ≡ Some n → 1 ≤ n }
         requires early { IsEarly self.old.due self.old.limit (shown self.old) }
-        ensures late { IfOk result (λ late. late ≡ is_overdue self.old.limit position (joined bound position here (shown self.old))) }
-        ensures list { IfOk result (λ late. late ≡ false → shown self.new ≡ passed_on stops arrives (joined bound position here (shown self.old))) }
+        ensures late { IfOk result (λ late. late ≡ is_late bound position here self.old) }
+        ensures list { IfOk result (λ late. late ≡ false →
+            shown self.new ≡ passed_on stops arrives (with_here bound position here self.old)) }
         ensures arrivals { OnOk result (self.new.arrivals ≤ position + 1) }
         ensures early { OnOk result (IsEarly self.new.due self.new.limit (shown self.new)) }
         ensures limit { self.new.limit ≡ self.old.limit }

@@ -1,26 +1,19 @@
 //! The run, looked at position after position.
 
-ghost use Rattle.std.specs.Prelude.{◌≡◌, ℕ, ◌+◌, ◌-◌, ◌%◌, ◌<◌, ◌≤◌, ◌^◌, ◌||◌, ◌&&◌, Bool, not, nat_eq, IfOk, OnOk, IsNone, if◌then◌else◌};
+ghost use Rattle.std.specs.Prelude.{◌≡◌, ℕ, ◌+◌, ◌-◌, ◌%◌, ◌<◌, ◌≤◌, ◌^◌, ◌||◌, IfOk, OnOk, IsNone};
 ghost use Rattle.rv_semantics.specs.Effect.{is_store};
 ghost use Rattle.std.specs.List.{list_any};
-ghost use Rattle.cells.specs.Bytes.{number};
 ghost use Rattle.cells.specs.Run.{is_end};
-ghost use Rattle.rv_word.specs.Meaning.{meaning};
-ghost use Rattle.rv_semantics.specs.Machine.{word_at};
-ghost use Rattle.rv_semantics.specs.Calls.{step as next_state};
 ghost use Rattle.seq_machine.specs.States.{arch_at, state_of};
-ghost use Rattle.profile_laws.specs.Tally.{places, loaded, stored, is_register_jump};
-ghost use Rattle.dist_image.specs.Image.{IsImage, prints_at};
-ghost use Rattle.image_semantics.specs.World.{task_machine};
+ghost use Rattle.profile_laws.specs.Tally.{stored, is_register_jump};
+ghost use Rattle.dist_image.specs.Image.{IsImage};
 ghost use Rattle.assumption_laws.specs.Looks.{side, load_of, fails_by, first_from};
-ghost use Rattle.fitting.specs.Claims.{among};
 ghost use Rattle.fitting.specs.Fits.{is_analysed};
 ghost use Rattle.access_trace.specs.Spans.{span_of};
-ghost use Rattle.access_trace.specs.Shadows.{mark_at};
-ghost use Rattle.assume_list.specs.Marks.{counted, dead_in};
+ghost use Rattle.assume_list.specs.Marks.{is_dead_store, IsMark, AreMarked};
 ghost use Rattle.assume_list.specs.Places.{AreKnown};
-ghost use Rattle.assume_list.specs.Watched.{IsWatched};
-ghost use Rattle.assume_list.specs.Sights.{is_code, is_within, is_same, is_stopping_call, look_in, marks_after};
+ghost use Rattle.assume_list.specs.Watched.{look_of, IsBegun, HasStepped, AreMarksAfter};
+ghost use Rattle.assume_list.specs.Sights.{is_code, is_within, is_same, inst_of, is_at_call, is_at_stop, is_changed, loaded_at};
 
 use crate::instruction::{is_register_jump, is_stopping_call, load_of, side};
 use crate::pcs::Pcs;
@@ -61,15 +54,15 @@ fn look_ahead<M: Memory>(
     ensures position { machine.new.position ≡ machine.old.position }
     ensures program { M.at program.new ≡ M.at program.old }
     ensures known { AreKnown pcs.new image.now }
-    ensures calls { result.calls ≡ is_stopping_call (prints_at image.now) (meaning (word_at (arch_at M.at machine.old.arch))) (arch_at M.at machine.old.arch) }
-    ensures side { result.side ≡ side (meaning (word_at (arch_at M.at machine.old.arch))) (arch_at M.at machine.old.arch) }
-    ensures jumps { result.jumps ≡ is_register_jump (meaning (word_at (arch_at M.at machine.old.arch))) }
-    ensures changed { result.changed ≡ not (nat_eq (word_at (arch_at M.at machine.old.arch)) (number 4 machine.old.arch.pc (M.at program.old))) }
-    ensures load { result.load ≡ load_of (meaning (word_at (arch_at M.at machine.old.arch))) (arch_at M.at machine.old.arch) }
-    ensures loads { span_of result.loads ≡ loaded (prints_at image.now) (meaning (word_at (arch_at M.at machine.old.arch))) (arch_at M.at machine.old.arch) }
-    ensures puts { span_of result.puts ≡ stored (meaning (word_at (arch_at M.at machine.old.arch))) (state_of M.at machine.old) }
+    ensures calls { result.calls ≡ is_at_call M.at image.now machine.old }
+    ensures side { result.side ≡ side (inst_of M.at machine.old) (arch_at M.at machine.old.arch) }
+    ensures jumps { result.jumps ≡ is_register_jump (inst_of M.at machine.old) }
+    ensures changed { result.changed ≡ is_changed M.at program.old machine.old }
+    ensures load { result.load ≡ load_of (inst_of M.at machine.old) (arch_at M.at machine.old.arch) }
+    ensures loads { span_of result.loads ≡ loaded_at M.at image.now machine.old }
+    ensures puts { span_of result.puts ≡ stored (inst_of M.at machine.old) (state_of M.at machine.old) }
     ensures few { result.puts.count ≤ 65_536 }
-    ensures stores { result.stores ≡ is_store (meaning (word_at (arch_at M.at machine.old.arch))) }
+    ensures stores { result.stores ≡ is_store (inst_of M.at machine.old) }
 {
     let pc = machine.arch.pc;
     let word = machine.arch.mem.fetch(pc);
@@ -98,7 +91,7 @@ pub(crate) fn stops(calls: bool, end: Option<End>) -> bool
 #[inline(always)]
 fn mark_of(dead: bool, pc: u32) -> u32
     requires { pc % 4 ≡ 0 }
-    ensures mark { (stores : Bool) (claimed : ℕ → ℕ) → dead ≡ (stores && not (nat_eq (claimed pc) 0)) → result ≡ (if stores then counted claimed (pc + 1) else 0) }
+    ensures mark { IsMark dead pc result }
     ensures small { result < 2 ^ 32 - 1 }
 {
     if dead { pc + 1 } else { 0 }
@@ -113,8 +106,8 @@ fn mark<M: Memory>(
     coming: &Coming,
 ) -> Result<(), AllocError>
     requires { pc % 4 ≡ 0 }
-    ensures { (claimed : ℕ → ℕ) → dead ≡ (coming.now.stores && not (nat_eq (claimed pc) 0)) → OnOk result ((a : ℕ) → mark_at M.at marks.new a
-        ≡ (if among (places coming.now.puts.count coming.now.puts.from) a then (if coming.now.stores then counted claimed (pc + 1) else 0) else mark_at M.at marks.old a)) }
+    ensures { (claimed : ℕ → ℕ) → dead ≡ is_dead_store coming.now.stores claimed pc
+        → OnOk result (AreMarked M.at coming.now claimed pc marks.old marks.new) }
 {
     let puts = coming.puts;
     let mark = mark_of(dead, pc);
@@ -156,7 +149,7 @@ impl<M: Memory> Watch<M> {
         ensures code { IfOk result (λ w. w.listed.code ≡ list_any is_code image.now.assumptions) }
         ensures within { IfOk result (λ w. w.listed.within ≡ list_any is_within image.now.assumptions) }
         ensures same { IfOk result (λ w. w.listed.same ≡ list_any is_same image.now.assumptions) }
-        ensures watched { IfOk result (λ w. IsWatched (state_of M.at w.machine) image.now w.machine.position (state_of M.at w.machine) (M.at w.program) (dead_in image.now.assumptions) (mark_at M.at w.marks) w.analysed) }
+        ensures watched { IfOk result (λ w. IsBegun M.at image.now w) }
     {
         let program = machine.arch.mem.snapshot(alloc)?;
         let analysed = is_analysed(image, machine.arch.pc);
@@ -185,17 +178,17 @@ impl<M: Memory> Watch<M> {
         requires within { self.old.listed.within ≡ list_any is_within image.now.assumptions }
         requires same { self.old.listed.same ≡ list_any is_same image.now.assumptions }
         requires analysed { self.old.analysed ≡ is_analysed image.now self.old.machine.arch.pc }
-        ensures state { OnOk result (state_of M.at self.new.machine ≡ next_state (state_of M.at self.old.machine)) }
+        ensures state { OnOk result (HasStepped M.at self.old self.new) }
         ensures position { OnOk result (self.new.machine.position ≡ self.old.machine.position + 1) }
         ensures near { self.new.machine.position ≤ self.old.machine.position + 1 }
         ensures known { AreKnown pcs.new image.now }
         ensures listed { self.new.listed ≡ self.old.listed }
         ensures program { M.at self.new.program ≡ M.at self.old.program }
-        ensures marks { OnOk result ((a : ℕ) → mark_at M.at self.new.marks a ≡ marks_after (dead_in image.now.assumptions) (state_of M.at self.old.machine) (mark_at M.at self.old.marks) a) }
+        ensures marks { OnOk result (AreMarksAfter M.at image.now self.old self.new) }
         ensures analysed { OnOk result (self.new.analysed ≡ is_analysed image.now self.new.machine.arch.pc) }
-        ensures stops { IfOk result (λ seen. seen.stops ≡ (task_machine image.now).stops (arch_at M.at self.old.machine.arch)) }
+        ensures stops { IfOk result (λ seen. seen.stops ≡ is_at_stop M.at image.now self.old.machine) }
         ensures first { IfOk result (λ seen. seen.first
-            ≡ first_from (fails_by (look_in image.now (number 4 self.old.machine.arch.pc (M.at self.old.program)) (state_of M.at self.old.machine) (mark_at M.at self.old.marks))) 0 image.now.assumptions) }
+            ≡ first_from (fails_by (look_of M.at image.now self.old)) 0 image.now.assumptions) }
     {
         let pc = self.machine.arch.pc;
         let coming = look_ahead(&mut self.machine, &mut self.program, image, pcs);

@@ -1,5 +1,5 @@
 -- What an answer says that looks at some of the rules alone, or at one note alone.
-use Rattle.std.specs.Prelude.{◌≡◌, ℕ, ◌<◌, Bool, true, nat_eq, nat_le, Option, Some, None}
+use Rattle.std.specs.Prelude.{◌≡◌, ℕ, ◌<◌, Bool, true, nat_eq, nat_le, ◌||◌, Option, Some, None}
 use Rattle.dist_image.specs.declared.image.Note.{Note}
 use Rattle.dist_image.specs.Image.{Distilled}
 use Rattle.certify.specs.declared.fit.Fit.{Fit}
@@ -33,3 +33,9 @@ module _ (word : ℕ → ℕ) (image : Distilled) where
   abbrev pub IsLeast : Note → Option ℕ → Type 0
   IsLeast x None = (rule : ℕ) → NoteKeeps word image rule x
   IsLeast x (Some rule) = (NoteKeeps word image rule x → ⊥) × ((r : ℕ) → r < rule → NoteKeeps word image r x)
+
+-- where two answers look at some of the rules each, a third one is what both of them say together
+abbrev pub IsAnswerOfBoth : Fit → Fit → Fit → Type 0
+IsAnswerOfBoth a b both =
+    (word : ℕ → ℕ) (image : Distilled) (s t : ℕ → Bool) → IsAnswerOf word image s a → IsAnswerOf word image t b
+    → IsAnswerOf word image (λ rule. s rule || t rule) both

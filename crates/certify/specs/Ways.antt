@@ -1,5 +1,5 @@
 -- In which way the distilled program does a note's word, and which registers are in the masks where that leads.
-use Rattle.std.specs.Prelude.{◌≡◌, ℕ, cond, nat_eq, List, Option, Some, None}
+use Rattle.std.specs.Prelude.{◌≡◌, ℕ, true, cond, nat_eq, List, ◌++◌, Option, Some, None}
 use Rattle.std.specs.List.{list_any}
 use Rattle.rv_word.specs.declared.inst.Inst.{Inst}
 use Rattle.rv_word.specs.Masks.{in_mask}
@@ -7,8 +7,8 @@ use Rattle.dist_image.specs.declared.image.Slot.{Slot}
 use Rattle.dist_image.specs.declared.image.Slot.TheVariants.{Exec}
 use Rattle.dist_image.specs.declared.image.Note.{Note}
 use Rattle.dist_image.specs.Image.{Distilled}
-use Rattle.fitting.specs.Claims.{claims, goes_on_at}
-use Rattle.fitting.specs.Fits.{MayPass, IsKept, IsSet, IsDone, IsPlaced, IsWithin, IsWithinBut, live_at, need_at}
+use Rattle.fitting.specs.Claims.{claims, goes_on_at, same_at}
+use Rattle.fitting.specs.Fits.{is_anchor_pc, set_word, MayPass, IsKept, IsSet, IsDone, IsPlaced, IsWithin, IsWithinBut, live_at, need_at}
 use Rattle.certify.specs.declared.masks.Masks.{Masks}
 use Rattle.certify.specs.declared.way.Way.{Way}
 use Rattle.certify.specs.declared.way.Way.TheVariants as way
@@ -33,6 +33,19 @@ IsJoined mask_at places mask = (r : ℕ) → in_mask mask r ≡ list_any (λ q. 
 pub record AreMasks (image : Distilled) (places : List ℕ) (m : Masks) : Type 0 where
   pub live : IsJoined (live_at image) places m.live
   pub need : IsJoined (need_at image) places m.need
+
+-- where two masks are those at some places each, a third one is that at all of them
+abbrev pub AreMasksOfBoth : Masks → Masks → Masks → Type 0
+AreMasksOfBoth a b both =
+    (image : Distilled) (ps qs : List ℕ) → AreMasks image ps a → AreMasks image qs b → AreMasks image (ps ++ qs) both
+
+-- the word that is done is the one that sets the register of the load at a pc to its one value
+abbrev pub IsSetBy : Distilled → ℕ → Inst → Option ℕ → Type 0
+IsSetBy image pc i done = (word : ℕ) × (set_word (same_at image pc) i ≡ Some word) × (done ≡ Some word)
+
+-- at an anchor's pc, a note needs what is live
+abbrev pub IsAnchored : Distilled → Note → Type 0
+IsAnchored image x = is_anchor_pc image x.pc ≡ true → IsWithin x.live x.need
 
 -- where an instruction is passed over, it may be
 abbrev pub IsAllowedIn : Way → Distilled → ℕ → Inst → Type 0

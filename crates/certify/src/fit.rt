@@ -1,8 +1,6 @@
 //! Answers, and which of two comes first.
 
-ghost use Rattle.std.specs.Prelude.{ℕ, Bool, ◌||◌};
-ghost use Rattle.dist_image.specs.Image.{Distilled};
-ghost use Rattle.certify.specs.Parts.{IsAnswerOf};
+ghost use Rattle.certify.specs.Parts.{IsAnswerOfBoth};
 
 /// Whether an image fits a program.
 ///
@@ -38,8 +36,7 @@ pub enum Fit {
 
 /// Of two answers, each of which looks at some of the rules, the one that comes first.
 pub(crate) fn earlier(a: Fit, b: Fit) -> Fit
-    ensures { (word : ℕ → ℕ) (image : Distilled) (s t : ℕ → Bool) → IsAnswerOf word image s a → IsAnswerOf word image t b
-        → IsAnswerOf word image (λ rule. s rule || t rule) result }
+    ensures { IsAnswerOfBoth a b result }
 {
     match (a, b) {
         (Fit::Yes, _) => b,

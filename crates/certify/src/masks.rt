@@ -1,11 +1,11 @@
 //! The registers that are live and those that are needed, at an address and behind an instruction.
 
-ghost use Rattle.std.specs.Prelude.{◌≡◌, ℕ, List, [], ◌∷◌, ◌++◌, unwrap_or};
+ghost use Rattle.std.specs.Prelude.{◌≡◌, [], ◌∷◌, unwrap_or};
 ghost use Rattle.rv_word.specs.declared.inst.Inst.TheVariants.{Ecall};
 ghost use Rattle.dist_image.specs.Image.{Distilled, IsImage, note_at};
 ghost use Rattle.fitting.specs.Claims.{claims, sides, leads};
 ghost use Rattle.fitting.specs.Fits.{need_at};
-ghost use Rattle.certify.specs.Ways.{AreMasks};
+ghost use Rattle.certify.specs.Ways.{AreMasks, AreMasksOfBoth};
 
 use crate::assumed::{cut_at, targets_at};
 use dist_image::{Image, Note, prints_at};
@@ -54,7 +54,7 @@ pub(crate) fn masks_at(image: &Image, pc: u32) -> Masks
 
 /// The registers of both.
 fn joined(a: Masks, b: Masks) -> Masks
-    ensures { (image : Distilled) (ps qs : List ℕ) → AreMasks image ps a → AreMasks image qs b → AreMasks image (ps ++ qs) result }
+    ensures { AreMasksOfBoth a b result }
 {
     Masks {
         live: a.live | b.live,

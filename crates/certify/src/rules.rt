@@ -3,11 +3,11 @@
 ghost use Rattle.std.specs.Prelude.{◌≡◌, ℕ, true, ◌↔◌, IsTrue};
 ghost use Rattle.rv_word.specs.Spelling.{IsWellFormed};
 ghost use Rattle.dist_image.specs.Image.{IsImage};
-ghost use Rattle.fitting.specs.Fits.{is_anchor_pc, IsWithin, IsWithinBut};
+ghost use Rattle.fitting.specs.Fits.{IsWithin, IsWithinBut};
 ghost use Rattle.certify.specs.declared.way.Way.TheVariants.{Lost};
 ghost use Rattle.certify.specs.Answers.{IsForked};
 ghost use Rattle.certify.specs.Parts.{IsLeast};
-ghost use Rattle.certify.specs.Ways.{IsAllowedIn, IsNeeded};
+ghost use Rattle.certify.specs.Ways.{IsAllowedIn, IsNeeded, IsAnchored};
 
 use crate::masks::{Masks, masks_at, masks_behind};
 use crate::passing::{goes_on, is_aimed, may_pass};
@@ -61,7 +61,7 @@ fn is_needed(need: u32, used: Used, behind: Masks, way: Way) -> bool
 /// Whether what is live at a note is needed, if its address is an anchor's.
 fn anchor_fits(image: &Image, note: &Note) -> bool
     requires { IsImage image.now }
-    ensures { IsTrue result ↔ (is_anchor_pc image.now note.now.pc ≡ true → IsWithin note.now.live note.now.need) }
+    ensures { IsTrue result ↔ IsAnchored image.now note.now }
 {
     !is_anchor(image, note.pc) || is_within(note.live, note.need)
 }
@@ -70,7 +70,7 @@ fn anchor_fits(image: &Image, note: &Note) -> bool
 fn need_fits(image: &Image, note: &Note, used: Used, behind: Masks, way: Way) -> bool
     requires { IsImage image.now }
     ensures { IsTrue result ↔ (IsNeeded way used.reads used.writes behind.need note.now.need
-        × (is_anchor_pc image.now note.now.pc ≡ true → IsWithin note.now.live note.now.need)) }
+        × IsAnchored image.now note.now) }
 {
     is_needed(note.need, used, behind, way) && anchor_fits(image, note)
 }

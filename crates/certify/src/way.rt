@@ -5,9 +5,8 @@ ghost use Rattle.rv_word.specs.Meaning.{meaning};
 ghost use Rattle.rv_word.specs.Spelling.{IsWellFormed};
 ghost use Rattle.dist_image.specs.declared.image.Slot.TheVariants.{Go, Fork};
 ghost use Rattle.dist_image.specs.Image.{IsImage, slot_of};
-ghost use Rattle.fitting.specs.Claims.{same_at};
 ghost use Rattle.fitting.specs.Fits.{is_anchor_pc, body_place, set_word};
-ghost use Rattle.certify.specs.Ways.{word_done, IsWay};
+ghost use Rattle.certify.specs.Ways.{word_done, IsWay, IsSetBy};
 
 use crate::assumed::value_at;
 use crate::passing::goes_on;
@@ -66,7 +65,7 @@ fn word_done(image: &Image, place: usize, pc: u32) -> Option<u32>
 fn is_set(image: &Image, pc: u32, i: &Inst, done: Option<u32>) -> bool
     requires image { IsImage image.now }
     requires well_formed { IsWellFormed i.now }
-    ensures { IsTrue result ↔ ((word : ℕ) × (set_word (same_at image.now pc) i.now ≡ Some word) × (done ≡ Some word)) }
+    ensures { IsTrue result ↔ IsSetBy image.now pc i.now done }
 {
     done.is_some() && done == set_word(value_at(image, pc), i)
 }

@@ -1,5 +1,5 @@
 -- What is joined behind the instructions, and how a mask that grew is joined to it.
-use Rattle.std.specs.Prelude.{◌≡◌, ℕ, ◌<◌, Bool, true, false, List, [], ◌∷◌, ◌++◌, ◌⊎◌, length, slice_index_or, bit_or}
+use Rattle.std.specs.Prelude.{◌≡◌, ℕ, ◌<◌, Bool, true, false, List, [], ◌∷◌, ◌++◌, ◌⊎◌, length, set, slice_index_or, bit_or}
 use Rattle.fitting.specs.Claims.{among}
 use Rattle.distill_rules.specs.declared.Mask.{Mask}
 use Rattle.distill_rules.specs.Rounds.{Point, live_at, need_at, joined, step}
@@ -21,6 +21,10 @@ behind_at b i = slice_index_or b i none_behind
 -- the same with one more mask
 abbrev pub with_mask : Behind → Mask → Behind
 with_mask e m = record { live = bit_or e.live m.live; need = bit_or e.need m.need }
+
+-- the same, with one more mask behind instruction i
+abbrev pub with_mask_at : List Behind → ℕ → Mask → List Behind
+with_mask_at b i m = set b i (with_mask (behind_at b i) m)
 
 -- a look gives at least the registers that an instruction has
 pub record HasAll (m n : Mask) : Type 0 where

@@ -1,8 +1,8 @@
 //! What is joined behind the instructions.
 
-ghost use Rattle.std.specs.Prelude.{◌≡◌, ◌<◌, length, set, IfOk};
+ghost use Rattle.std.specs.Prelude.{◌≡◌, ◌<◌, length, IfOk};
 ghost use Rattle.liveness.specs.Waiting.{ArePlaces};
-ghost use Rattle.liveness.specs.Behind.{behind_at, with_mask, IsJoined, IsSpread};
+ghost use Rattle.liveness.specs.Behind.{with_mask_at, IsJoined, IsSpread};
 
 use flow_graph::Mask;
 use std::alloc::AllocError;
@@ -23,7 +23,8 @@ pub(crate) fn spread(
     next: &mut Vec<usize>,
 ) -> Result<(), AllocError>
     requires { ArePlaces (length behind.old) places.now }
-    ensures { IfOk result (λ _. IsSpread mask places.now behind.old behind.new next.old.items next.new.items) }
+    ensures { IfOk result (λ _.
+        IsSpread mask places.now behind.old behind.new next.old.items next.new.items) }
 {
     for i in places {
         join(behind, mask, *i, next)?;
@@ -39,7 +40,7 @@ fn join(
     next: &mut Vec<usize>,
 ) -> Result<(), AllocError>
     requires { i < length behind.old }
-    ensures behind { IfOk result (λ _. behind.new ≡ set behind.old i (with_mask (behind_at behind.old i) mask)) }
+    ensures behind { IfOk result (λ _. behind.new ≡ with_mask_at behind.old i mask) }
     ensures next { IfOk result (λ _. IsJoined i behind.old behind.new next.old.items next.new.items) }
 {
     let old = behind[i];

@@ -4,9 +4,10 @@ ghost use Rattle.std.specs.Prelude.{◌≡◌, IfOk, if◌then◌else◌};
 ghost use Rattle.rv_word.specs.Spelling.{IsWellFormed};
 ghost use Rattle.std.specs.List.Sorted.{IsStrictlyIncreasing};
 ghost use Rattle.rv_semantics.specs.Prints.{is_call, task_reads, task_writes};
-ghost use Rattle.distill_rules.specs.Points.{fate_of, point_by, points};
+ghost use Rattle.distill_rules.specs.Points.{fate_of, points};
 ghost use Rattle.distill_rules.specs.Solution.{IsFit, AreFit};
 ghost use Rattle.cuts.specs.Listed.{IsListed};
+ghost use Rattle.liveness.specs.Known.{point_known};
 
 use cuts::{CutList, is_among};
 use distill_rules::Fate;
@@ -87,7 +88,7 @@ struct Known {
 
 /// The part of a spot, by what is known of it.
 fn part_of(alloc: Global, spot: &Spot, known: Known) -> Result<FlowPoint, AllocError>
-    ensures part { IfOk result (λ part. part ≡ point_by (λ pc. known.prints) known.cut known.dead known.is_set known.is_anchor spot.now) }
+    ensures part { IfOk result (λ part. part ≡ point_known known spot.now) }
     ensures fit { IfOk result IsFit }
 {
     let word = spot.word;

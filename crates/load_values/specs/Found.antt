@@ -1,13 +1,13 @@
 -- The loads of a run that give one value each, and the pcs at which loads are executed, by the positions of the run.
-use Rattle.std.specs.Prelude.{◌≡◌, ◌↔◌, ℕ, ◌<◌, zero, suc, Bool, true, false, not, if◌then◌else◌, nat_eq, List, [], length, map, Some}
+use Rattle.std.specs.Prelude.{◌≡◌, ◌↔◌, ℕ, ◌<◌, zero, suc, Bool, true, false, not, if◌then◌else◌, nat_eq, List, [], length, map, Some, All}
 use Rattle.std.specs.List.Sorted.{IsStrictlyIncreasing}
 use Rattle.std.specs.Map.{lookup}
 use Rattle.rv_word.specs.declared.inst.Inst.{Inst}
 use Rattle.rv_word.specs.declared.inst.Inst.TheVariants.{Load}
 use Rattle.cells.specs.Run.{State}
 use Rattle.rv_semantics.specs.Machine.{word_at}
-use Rattle.fitting.specs.Fails.{loads_as, program, arch_at, pc_at, fetched_at}
-use Rattle.profile_laws.specs.Profiles.{with_new}
+use Rattle.fitting.specs.Fails.{IsLoaded, loads_as, program, arch_at, pc_at, fetched_at}
+use Rattle.profile_laws.specs.Profiles.{steps, with_new}
 use Rattle.load_values.specs.Values.{pc_of}
 use Rattle.load_values.specs.Reading.{has_word}
 
@@ -50,3 +50,15 @@ module _ (start : State) where
   pub record IsListed (n : ℕ) (rows : List (ℕ × ℕ)) : Type 0 where
     pub rise : IsStrictlyIncreasing (map pc_of rows)
     pub exact : (p v : ℕ) → (lookup (nat_eq p) rows ≡ Some v) ↔ (IsValueAt n p v × (has_word v ≡ true))
+
+  -- the same of as many positions as a budget has steps, or of those to the end of the run
+  abbrev pub IsListedWithin : ℕ → List (ℕ × ℕ) → Type 0
+  IsListedWithin budget rows = IsListed (steps start budget) rows
+
+  -- at each of these positions that stands at the pc of a pair, its value is what is loaded
+  abbrev pub AreLoadedWithin : ℕ → List (ℕ × ℕ) → Type 0
+  AreLoadedWithin budget rows = All (IsLoaded start (steps start budget)) rows
+
+  -- these positions execute loads at more pcs than a list of values can hold
+  abbrev pub IsWideWithin : ℕ → Type 0
+  IsWideWithin budget = IsWide (steps start budget)

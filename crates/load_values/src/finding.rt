@@ -1,21 +1,16 @@
 //! Runs a program and finds its loads of one value.
 
-ghost use Rattle.std.specs.Prelude.{◌≡◌, ℕ, ◌+◌, ◌-◌, ◌<◌, ◌≤◌, ◌^◌, OnOk, IfOk, IfErr, IsNone, None, All};
-ghost use Rattle.std.specs.Ordering.{nat_cmp};
-ghost use Rattle.std.specs.BTreeMap.{get};
+ghost use Rattle.std.specs.Prelude.{◌≡◌, ℕ, ◌+◌, ◌-◌, ◌<◌, ◌≤◌, ◌^◌, OnOk, IfOk, IfErr, IsNone, None};
 ghost use Rattle.cells.specs.Cells.{IsPc};
-ghost use Rattle.cells.specs.Bytes.{word_of};
 ghost use Rattle.rv_semantics.specs.Calls.{step as next_state};
 ghost use Rattle.elf_reader.specs.Executable.{IsProgram};
-ghost use Rattle.seq_machine.specs.States.{state_of, arch_at};
+ghost use Rattle.seq_machine.specs.States.{state_of};
 ghost use Rattle.seq_machine.specs.Parts.{start_of};
-ghost use Rattle.profile_laws.specs.Profiles.{steps};
 ghost use Rattle.load_values.specs.declared.error.FindErr.TheVariants.{Wide};
 ghost use Rattle.load_values.specs.Values.{AreValues};
-ghost use Rattle.fitting.specs.Fails.{IsLoaded};
-ghost use Rattle.load_values.specs.Found.{IsListed, IsWide};
-ghost use Rattle.load_values.specs.Sights.{sight_of, known_after, newly};
-ghost use Rattle.load_values.specs.Counted.{AreFew, IsCounted};
+ghost use Rattle.load_values.specs.Found.{IsListedWithin, AreLoadedWithin, IsWideWithin};
+ghost use Rattle.load_values.specs.Sights.{known_after};
+ghost use Rattle.load_values.specs.Counted.{AreFew, known_of, OthersStay, count_after, sight_here, IsCountedWithin};
 
 use crate::error::FindErr;
 use crate::loads::Loads;
@@ -40,14 +35,14 @@ fn step<M: Memory>(
     ensures state { OnOk result (state_of M.at machine.new ≡ next_state (state_of M.at machine.old)) }
     ensures position { OnOk result (machine.new.position ≡ machine.old.position + 1) }
     ensures pc { OnOk result (IsPc machine.new.arch.pc) }
-    ensures here { OnOk result (get nat_cmp loads.new.found machine.old.arch.pc
-        ≡ known_after (sight_of (word_of (M.at machine.old.arch.mem) machine.old.arch.pc) (word_of (M.at program.old) machine.old.arch.pc) (arch_at M.at machine.old.arch)) (get nat_cmp loads.old.found machine.old.arch.pc)) }
-    ensures elsewhere { OnOk result ((q : ℕ) → (q ≡ machine.old.arch.pc → ⊥) → get nat_cmp loads.new.found q ≡ get nat_cmp loads.old.found q) }
-    ensures count { OnOk result (loads.new.count ≡ loads.old.count
-        + newly (sight_of (word_of (M.at machine.old.arch.mem) machine.old.arch.pc) (word_of (M.at program.old) machine.old.arch.pc) (arch_at M.at machine.old.arch)) (get nat_cmp loads.old.found machine.old.arch.pc)) }
+    ensures here { OnOk result (known_of loads.new machine.old.arch.pc
+        ≡ known_after (sight_here M.at program.old machine.old) (known_of loads.old machine.old.arch.pc)) }
+    ensures elsewhere { OnOk result (OthersStay machine.old.arch.pc loads.old loads.new) }
+    ensures count { OnOk result (loads.new.count
+        ≡ count_after (sight_here M.at program.old machine.old) machine.old.arch.pc loads.old) }
     ensures few { OnOk result (AreFew loads.new) }
-    ensures wide { IfErr result (λ e. e ≡ Wide → 524_288 < loads.old.count
-        + newly (sight_of (word_of (M.at machine.old.arch.mem) machine.old.arch.pc) (word_of (M.at program.old) machine.old.arch.pc) (arch_at M.at machine.old.arch)) (get nat_cmp loads.old.found machine.old.arch.pc)) }
+    ensures wide { IfErr result (λ e. e ≡ Wide →
+        524_288 < count_after (sight_here M.at program.old machine.old) machine.old.arch.pc loads.old) }
 {
     let pc = machine.arch.pc;
     let sight = look(machine, program);
@@ -65,13 +60,14 @@ fn find_all<M: Memory>(
     budget: u64,
 ) -> Result<(), FindErr>
     requires position { machine.old.position ≡ 0 }
-    requires found { (q : ℕ) → get nat_cmp loads.old.found q ≡ None }
+    requires found { (q : ℕ) → known_of loads.old q ≡ None }
     requires count { loads.old.count ≡ 0 }
     requires few { AreFew loads.old }
     requires program { M.at program.old ≡ M.at machine.old.arch.mem }
     requires budget { budget ≤ 10 ^ 12 }
-    ensures counted { OnOk result (IsCounted M.at (state_of M.at machine.old) (steps (state_of M.at machine.old) budget) machine.new loads.new) }
-    ensures wide { IfErr result (λ e. e ≡ Wide → IsWide (state_of M.at machine.old) (steps (state_of M.at machine.old) budget)) }
+    ensures counted { OnOk result
+        (IsCountedWithin M.at (state_of M.at machine.old) budget machine.new loads.new) }
+    ensures wide { IfErr result (λ e. e ≡ Wide → IsWideWithin (state_of M.at machine.old) budget) }
 {
     prove!(machine.arch.pc % 4 == 0);
     while machine.position < budget && machine.end.is_none() {
@@ -90,10 +86,10 @@ fn find_on<M: Memory>(
     requires program { IsProgram p.now }
     requires budget { budget ≤ 10 ^ 12 }
     ensures values { IfOk result (λ rows. AreValues rows.items) }
-    ensures listed { IfOk result (λ rows. IsListed (start_of p.now input.items) (steps (start_of p.now input.items) budget) rows.items) }
-    ensures loaded { IfOk result (λ rows. All (IsLoaded (start_of p.now input.items) (steps (start_of p.now input.items) budget)) rows.items) }
-    ensures narrow { IfOk result (λ rows. IsWide (start_of p.now input.items) (steps (start_of p.now input.items) budget) → ⊥) }
-    ensures wide { IfErr result (λ e. e ≡ Wide → IsWide (start_of p.now input.items) (steps (start_of p.now input.items) budget)) }
+    ensures listed { IfOk result (λ rows. IsListedWithin (start_of p.now input.items) budget rows.items) }
+    ensures loaded { IfOk result (λ rows. AreLoadedWithin (start_of p.now input.items) budget rows.items) }
+    ensures narrow { IfOk result (λ rows. IsWideWithin (start_of p.now input.items) budget → ⊥) }
+    ensures wide { IfErr result (λ e. e ≡ Wide → IsWideWithin (start_of p.now input.items) budget) }
 {
     let mut machine: Machine<M> = load(alloc, p, input)?;
     let mut program = machine.arch.mem.snapshot(alloc)?;
@@ -124,14 +120,14 @@ pub fn find(
 
     // A file can hold the list, which has the values of the run and no others.
     ensures values { IfOk result (λ rows. AreValues rows.items) }
-    ensures listed { IfOk result (λ rows. IsListed (start_of p.now input.items) (steps (start_of p.now input.items) budget) rows.items) }
+    ensures listed { IfOk result (λ rows. IsListedWithin (start_of p.now input.items) budget rows.items) }
 
     // So at each of these steps at its address a value is what is loaded.
-    ensures loaded { IfOk result (λ rows. All (IsLoaded (start_of p.now input.items) (steps (start_of p.now input.items) budget)) rows.items) }
+    ensures loaded { IfOk result (λ rows. AreLoadedWithin (start_of p.now input.items) budget rows.items) }
 
     // The error comes where loads are executed at too many addresses, and nowhere else.
-    ensures narrow { IfOk result (λ rows. IsWide (start_of p.now input.items) (steps (start_of p.now input.items) budget) → ⊥) }
-    ensures wide { IfErr result (λ e. e ≡ Wide → IsWide (start_of p.now input.items) (steps (start_of p.now input.items) budget)) }
+    ensures narrow { IfOk result (λ rows. IsWideWithin (start_of p.now input.items) budget → ⊥) }
+    ensures wide { IfErr result (λ e. e ≡ Wide → IsWideWithin (start_of p.now input.items) budget) }
 {
     find_on::<PlainMemory>(alloc, p, input, budget)
 }

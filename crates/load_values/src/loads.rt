@@ -2,12 +2,12 @@
 
 ghost use Rattle.std.specs.Prelude.{◌≡◌, ℕ, ◌+◌, ◌++◌, ◌<◌, IfOk, IfErr, OnOk, None, Some, All};
 ghost use Rattle.std.specs.Ordering.{nat_cmp};
-ghost use Rattle.std.specs.BTreeMap.{get, IsOrdered};
+ghost use Rattle.std.specs.BTreeMap.{IsOrdered};
 ghost use Rattle.load_values.specs.declared.error.FindErr.TheVariants.{Wide};
 ghost use Rattle.load_values.specs.Values.{IsSmall};
 ghost use Rattle.load_values.specs.Sights as spec;
-ghost use Rattle.load_values.specs.Sights.{noted, known_after, newly, row_of, listed};
-ghost use Rattle.load_values.specs.Counted.{AreFew};
+ghost use Rattle.load_values.specs.Sights.{noted, known_after, row_of, listed};
+ghost use Rattle.load_values.specs.Counted.{AreFew, known_of, OthersStay, count_after};
 
 use crate::error::FindErr;
 use crate::row::has_word;
@@ -113,7 +113,7 @@ pub(crate) struct Loads {
 impl Loads {
     /// Nothing is known yet.
     pub fn new(alloc: Global) -> Self
-        ensures found { (q : ℕ) → get nat_cmp result.found q ≡ None }
+        ensures found { (q : ℕ) → known_of result q ≡ None }
         ensures count { result.count ≡ 0 }
         ensures few { AreFew result }
     {
@@ -126,11 +126,11 @@ impl Loads {
     /// Notes what a position tells, where a load is concerned.
     fn note(&mut self, pc: u32, sight: Sight) -> Result<(), FindErr>
         requires { AreFew self.old }
-        ensures here { OnOk result (get nat_cmp self.new.found pc ≡ Some (noted sight (get nat_cmp self.old.found pc))) }
-        ensures elsewhere { OnOk result ((q : ℕ) → (q ≡ pc → ⊥) → get nat_cmp self.new.found q ≡ get nat_cmp self.old.found q) }
-        ensures count { OnOk result (self.new.count ≡ self.old.count + newly sight (get nat_cmp self.old.found pc)) }
+        ensures here { OnOk result (known_of self.new pc ≡ Some (noted sight (known_of self.old pc))) }
+        ensures elsewhere { OnOk result (OthersStay pc self.old self.new) }
+        ensures count { OnOk result (self.new.count ≡ count_after sight pc self.old) }
         ensures few { OnOk result (AreFew self.new) }
-        ensures wide { IfErr result (λ e. e ≡ Wide → 524_288 < self.old.count + newly sight (get nat_cmp self.old.found pc)) }
+        ensures wide { IfErr result (λ e. e ≡ Wide → 524_288 < count_after sight pc self.old) }
     {
         let known = self.found.get(&pc).copied();
         self.found.insert(pc, noted(sight, known))?;
@@ -145,11 +145,11 @@ impl Loads {
     #[inline(always)]
     pub fn add(&mut self, pc: u32, sight: Sight) -> Result<(), FindErr>
         requires { AreFew self.old }
-        ensures here { OnOk result (get nat_cmp self.new.found pc ≡ known_after sight (get nat_cmp self.old.found pc)) }
-        ensures elsewhere { OnOk result ((q : ℕ) → (q ≡ pc → ⊥) → get nat_cmp self.new.found q ≡ get nat_cmp self.old.found q) }
-        ensures count { OnOk result (self.new.count ≡ self.old.count + newly sight (get nat_cmp self.old.found pc)) }
+        ensures here { OnOk result (known_of self.new pc ≡ known_after sight (known_of self.old pc)) }
+        ensures elsewhere { OnOk result (OthersStay pc self.old self.new) }
+        ensures count { OnOk result (self.new.count ≡ count_after sight pc self.old) }
         ensures few { OnOk result (AreFew self.new) }
-        ensures wide { IfErr result (λ e. e ≡ Wide → 524_288 < self.old.count + newly sight (get nat_cmp self.old.found pc)) }
+        ensures wide { IfErr result (λ e. e ≡ Wide → 524_288 < count_after sight pc self.old) }
     {
         match sight {
             Sight::Nothing => Ok(()),

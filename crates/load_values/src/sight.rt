@@ -1,11 +1,11 @@
 //! What a position of a run tells of the load at its address, seen before its step.
 
 ghost use Rattle.std.specs.Prelude.{◌≡◌, ◌&&◌, not, nat_eq};
-ghost use Rattle.cells.specs.Bytes.{word_of};
 ghost use Rattle.rv_word.specs.Spelling.{IsWellFormed};
 ghost use Rattle.seq_machine.specs.States.{state_of, arch_at};
 ghost use Rattle.load_values.specs.Found as spec;
-ghost use Rattle.load_values.specs.Sights.{sight_by, sight_of};
+ghost use Rattle.load_values.specs.Sights.{sight_by};
+ghost use Rattle.load_values.specs.Counted.{sight_here};
 
 use access_trace::{number_at, register};
 use rv_step::{Arch, Memory};
@@ -59,7 +59,7 @@ pub(crate) fn look<M: Memory>(machine: &mut Machine<M>, program: &mut M) -> Sigh
     ensures end { machine.new.end ≡ machine.old.end }
     ensures position { machine.new.position ≡ machine.old.position }
     ensures program { M.at program.new ≡ M.at program.old }
-    ensures sight { result ≡ sight_of (word_of (M.at machine.old.arch.mem) machine.old.arch.pc) (word_of (M.at program.old) machine.old.arch.pc) (arch_at M.at machine.old.arch) }
+    ensures sight { result ≡ sight_here M.at program.old machine.old }
 {
     let pc = machine.arch.pc;
     let word = machine.arch.mem.fetch(pc);

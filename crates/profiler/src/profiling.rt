@@ -4,10 +4,9 @@ ghost use Rattle.std.specs.Prelude.{◌≡◌, ◌≤◌, ◌^◌, OnOk, IfOk, I
 ghost use Rattle.elf_reader.specs.Executable.{IsProgram};
 ghost use Rattle.seq_machine.specs.Parts.{start_of};
 ghost use Rattle.profile_data.specs.Profile.{Profiled};
-ghost use Rattle.profile_laws.specs.Profiles.{steps, with_mark, IsProfileOf, IsWide};
-ghost use Rattle.profile_laws.specs.Tally.{kept};
+ghost use Rattle.profile_laws.specs.Profiles.{steps, IsWide};
 ghost use Rattle.profiler.specs.declared.error.ProfilingErr.TheVariants.{Wide};
-ghost use Rattle.profiler.specs.Counted.{began, IsRecorded};
+ghost use Rattle.profiler.specs.Counted.{began, IsRecorded, IsWideWithin, IsProfileWithin};
 
 use crate::error::ProfilingErr;
 use crate::recording::Recording;
@@ -30,7 +29,7 @@ fn count_all<M: Memory>(
     ensures start { began M.at recording.new ≡ began M.at recording.old }
     ensures calls { recording.new.calls ≡ recording.old.calls }
     ensures steps { OnOk result (recording.new.machine.position ≡ steps (began M.at recording.old) budget) }
-    ensures wide { IfErr result (λ e. e ≡ Wide → IsWide (kept (with_mark recording.old.calls) (began M.at recording.old) (steps (began M.at recording.old) budget)).rows) }
+    ensures wide { IfErr result (λ e. e ≡ Wide → IsWideWithin M.at recording.old budget) }
 {
     while recording.machine.position < budget && recording.machine.end.is_none() {
         recording.one(alloc)?;
@@ -48,10 +47,10 @@ fn profile_on<M: Memory>(
 ) -> Result<Profile, ProfilingErr>
     requires program { IsProgram p.now }
     requires budget { budget ≤ 10 ^ 12 }
-    ensures profile { IfOk result (λ f. IsProfileOf (with_mark calls) (start_of p.now input.items) (steps (start_of p.now input.items) budget) f) }
+    ensures profile { IfOk result (λ f. IsProfileWithin calls (start_of p.now input.items) budget f) }
     ensures narrow { IfOk result (λ f. IsWide f.rows → ⊥) }
     ensures wide { IfErr result (λ e. e ≡ Wide →
-        (f : Profiled) → IsProfileOf (with_mark calls) (start_of p.now input.items) (steps (start_of p.now input.items) budget) f → IsWide f.rows) }
+        (f : Profiled) → IsProfileWithin calls (start_of p.now input.items) budget f → IsWide f.rows) }
 {
     let mut recording: Recording<M> = Recording::new(alloc, p, input, calls)?;
     count_all(alloc, &mut recording, budget)?;
@@ -84,12 +83,12 @@ pub fn profile(
     requires budget { budget ≤ 10 ^ 12 }
 
     // It is the profile of the run, of which there is one; and it is not too wide.
-    ensures profile { IfOk result (λ f. IsProfileOf (with_mark calls) (start_of p.now input.items) (steps (start_of p.now input.items) budget) f) }
+    ensures profile { IfOk result (λ f. IsProfileWithin calls (start_of p.now input.items) budget f) }
     ensures narrow { IfOk result (λ f. IsWide f.rows → ⊥) }
 
     // So this error comes where the run's profile is too wide, and nowhere else.
     ensures wide { IfErr result (λ e. e ≡ Wide →
-        (f : Profiled) → IsProfileOf (with_mark calls) (start_of p.now input.items) (steps (start_of p.now input.items) budget) f → IsWide f.rows) }
+        (f : Profiled) → IsProfileWithin calls (start_of p.now input.items) budget f → IsWide f.rows) }
 {
     profile_on::<PlainMemory>(alloc, p, input, budget, calls)
 }

@@ -1,13 +1,10 @@
 //! Notes the stores whose bytes a position reads.
 
-ghost use Rattle.std.specs.Prelude.{◌≡◌, ℕ, ◌+◌, ◌%◌, ◌<◌, ◌≤◌, true};
+ghost use Rattle.std.specs.Prelude.{◌≡◌, ◌+◌, ◌%◌, ◌<◌, ◌≤◌};
 ghost use Rattle.indexmap.specs.IndexMap.{values};
 ghost use Rattle.profile_data.specs.Keyed.{IsKeyed};
-ghost use Rattle.fitting.specs.Claims.{among};
-ghost use Rattle.profile_laws.specs.Tally.{places, bytes_in, read_back, marked};
-ghost use Rattle.access_trace.specs.Spans.{span_of};
-ghost use Rattle.access_trace.specs.Shadows.{own_at, mark_at};
-ghost use Rattle.profiler.specs.Noted.{AreNoted};
+ghost use Rattle.profile_laws.specs.Tally.{marked};
+ghost use Rattle.profiler.specs.Noted.{AreNoted, AreMarkedApart, noted_in, noted_by};
 
 use crate::table::Table;
 use crate::visit::Visit;
@@ -42,8 +39,8 @@ fn note(table: &mut Table, noted: &mut Noted, mark: u32)
 fn read_own<M: Memory>(table: &mut Table, writers: &Shadow<M>, noted: &mut Noted, span: ByteRange)
     requires keyed { IsKeyed table.old.rows }
     requires noted { AreNoted noted.old (values table.old.rows) }
-    requires own { (a : ℕ) → among (bytes_in (span_of span)) a ≡ true → mark_at M.at writers.now a ≡ own_at M.at writers.now a }
-    ensures rows { values table.new.rows ≡ read_back (mark_at M.at writers.now) (bytes_in (span_of span)) (values table.old.rows) }
+    requires own { AreMarkedApart M.at writers.now span }
+    ensures rows { values table.new.rows ≡ noted_in M.at writers.now span (values table.old.rows) }
     ensures keyed { IsKeyed table.new.rows }
     ensures noted { AreNoted noted.new (values table.new.rows) }
 {
@@ -60,7 +57,7 @@ fn read_word<M: Memory>(table: &mut Table, writers: &Shadow<M>, noted: &mut Note
     requires within { span.from % 4 + span.count ≤ 4 }
     requires keyed { IsKeyed table.old.rows }
     requires noted { AreNoted noted.old (values table.old.rows) }
-    ensures rows { values table.new.rows ≡ read_back (mark_at M.at writers.now) (bytes_in (span_of span)) (values table.old.rows) }
+    ensures rows { values table.new.rows ≡ noted_in M.at writers.now span (values table.old.rows) }
     ensures keyed { IsKeyed table.new.rows }
     ensures noted { AreNoted noted.new (values table.new.rows) }
 {
@@ -74,7 +71,7 @@ fn read_word<M: Memory>(table: &mut Table, writers: &Shadow<M>, noted: &mut Note
 #[inline(never)]
 fn read_words<M: Memory>(table: &mut Table, writers: &Shadow<M>, span: ByteRange)
     requires { IsKeyed table.old.rows }
-    ensures rows { values table.new.rows ≡ read_back (mark_at M.at writers.now) (bytes_in (span_of span)) (values table.old.rows) }
+    ensures rows { values table.new.rows ≡ noted_in M.at writers.now span (values table.old.rows) }
     ensures keyed { IsKeyed table.new.rows }
 {
     let mut noted = [0; PLACES];
@@ -95,7 +92,7 @@ fn read_words<M: Memory>(table: &mut Table, writers: &Shadow<M>, span: ByteRange
 #[inline(always)]
 fn read_back<M: Memory>(table: &mut Table, writers: &Shadow<M>, span: ByteRange)
     requires { IsKeyed table.old.rows }
-    ensures rows { values table.new.rows ≡ read_back (mark_at M.at writers.now) (bytes_in (span_of span)) (values table.old.rows) }
+    ensures rows { values table.new.rows ≡ noted_in M.at writers.now span (values table.old.rows) }
     ensures keyed { IsKeyed table.new.rows }
 {
     if span.count == 0 {
@@ -111,7 +108,7 @@ fn read_back<M: Memory>(table: &mut Table, writers: &Shadow<M>, span: ByteRange)
 #[inline(always)]
 pub(crate) fn note_reads<M: Memory>(table: &mut Table, writers: &Shadow<M>, visit: &Visit)
     requires { IsKeyed table.old.rows }
-    ensures rows { values table.new.rows ≡ read_back (mark_at M.at writers.now) (bytes_in (span_of visit.now.loads)) (read_back (mark_at M.at writers.now) (places 4 visit.now.pc) (values table.old.rows)) }
+    ensures rows { values table.new.rows ≡ noted_by M.at writers.now visit.now (values table.old.rows) }
     ensures keyed { IsKeyed table.new.rows }
 {
     let word = ByteRange {

@@ -3,11 +3,9 @@
 ghost use Rattle.std.specs.Prelude.{◌≡◌, ◌+◌, ◌<◌, ◌^◌, false, OnOk, OnErr, IfOk, IfErr};
 ghost use Rattle.cells.specs.Run.{is_over};
 ghost use Rattle.elf_reader.specs.Executable.{IsProgram};
-ghost use Rattle.seq_machine.specs.Parts.{start_of};
-ghost use Rattle.fitting.specs.Fails.{state_at};
-ghost use Rattle.profile_laws.specs.Profiles.{with_mark, IsProfileOf, IsWide};
-ghost use Rattle.profile_laws.specs.Tally.{kept};
+ghost use Rattle.profile_laws.specs.Profiles.{IsWide};
 ghost use Rattle.profiler.specs.declared.error.ProfilingErr.TheVariants.{Wide};
+ghost use Rattle.profiler.specs.Recorded.{state_reached, IsRecordedProfile, IsNextWide};
 
 use crate::error::ProfilingErr;
 use crate::programs::copy_program;
@@ -62,7 +60,8 @@ impl Recorder {
         calls: bool,
     ) -> Result<Recorder, AllocError>
         requires { IsProgram p.now }
-        ensures { IfOk result (λ r. r ≡ record { program = p.now; input = input.items; position = 0; calls = calls }) }
+        ensures { IfOk result (λ r. r ≡
+            record { program = p.now; input = input.items; position = 0; calls = calls }) }
     {
         let program = copy_program(alloc, p)?;
         let recording = Recording::new(alloc, p, input, calls)?;
@@ -83,12 +82,12 @@ impl Recorder {
     /// `Wide` exactly where the profile after this step would be too wide, as in
     /// [`profile`](crate::profile); or `Memory`.
     pub fn one(&mut self, alloc: Global) -> Result<(), ProfilingErr>
-        requires running { is_over (state_at (start_of self.old.program self.old.input) self.old.position) ≡ false }
+        requires running { is_over (state_reached self.old) ≡ false }
         requires steps { self.old.position < 10 ^ 12 + 16_383 }
         ensures ok { OnOk result (self.new ≡ record self.old { position = self.old.position + 1 }) }
         ensures err { OnErr result (self.new ≡ self.old) }
-        ensures narrow { OnOk result (IsWide (kept (with_mark self.old.calls) (start_of self.old.program self.old.input) (self.old.position + 1)).rows → ⊥) }
-        ensures wide { IfErr result (λ e. e ≡ Wide → IsWide (kept (with_mark self.old.calls) (start_of self.old.program self.old.input) (self.old.position + 1)).rows) }
+        ensures narrow { OnOk result (IsNextWide self.old → ⊥) }
+        ensures wide { IfErr result (λ e. e ≡ Wide → IsNextWide self.old) }
     {
         self.recording.one(alloc)
     }
@@ -102,7 +101,7 @@ impl Recorder {
 
     /// Whether the run has ended with these steps. Takes no memory.
     pub fn ended(&self) -> bool
-        ensures { result ≡ is_over (state_at (start_of self.now.program self.now.input) self.now.position) }
+        ensures { result ≡ is_over (state_reached self.now) }
     {
         self.recording.machine.end.is_some()
     }
@@ -113,7 +112,7 @@ impl Recorder {
     ///
     /// Want of memory alone.
     pub fn profile(&self, alloc: Global) -> Result<Profile, AllocError>
-        ensures profile { IfOk result (λ f. IsProfileOf (with_mark self.now.calls) (start_of self.now.program self.now.input) self.now.position f) }
+        ensures profile { IfOk result (λ f. IsRecordedProfile self.now f) }
         ensures narrow { IfOk result (λ f. IsWide f.rows → ⊥) }
     {
         self.recording.profile(alloc)

@@ -2,17 +2,17 @@
 
 ghost use Rattle.std.specs.Prelude.{◌≡◌, ◌+◌, ◌-◌, ◌<◌, ◌^◌, OnOk, OnErr, IfOk, IfErr, IsNone};
 ghost use Rattle.cells.specs.Cells.{IsPc};
-ghost use Rattle.cells.specs.Bytes.{word_of};
 ghost use Rattle.rv_semantics.specs.Calls.{step as next_state};
 ghost use Rattle.elf_reader.specs.Executable.{IsProgram};
 ghost use Rattle.seq_machine.specs.States.{state_of};
 ghost use Rattle.seq_machine.specs.Parts.{start_of};
-ghost use Rattle.profile_laws.specs.Profiles.{with_mark, IsProfileOf, IsWide};
-ghost use Rattle.profile_laws.specs.Tally.{visit, kept, after_visit, rows_after};
+ghost use Rattle.profile_laws.specs.Profiles.{IsWide};
+ghost use Rattle.profile_laws.specs.Tally.{after_visit, rows_after};
 ghost use Rattle.profiler.specs.declared.error.ProfilingErr.TheVariants.{Wide};
+ghost use Rattle.profiler.specs.Visits.{visit_here};
 ghost use Rattle.profiler.specs.Rows.{EachHasRoom};
 ghost use Rattle.profiler.specs.Tally.{kept_of, IsTally};
-ghost use Rattle.profiler.specs.Counted.{began, IsRecorded};
+ghost use Rattle.profiler.specs.Counted.{began, IsRecorded, IsNextWide, IsProfileSoFar};
 
 use crate::error::ProfilingErr;
 use crate::tally::Tally;
@@ -43,12 +43,12 @@ fn step<M: Memory>(
     ensures position { OnOk result (machine.new.position ≡ machine.old.position + 1) }
     ensures pc { OnOk result (IsPc machine.new.arch.pc) }
     ensures kept { OnOk result (kept_of M.at tally.new
-        ≡ after_visit (visit (with_mark calls) (word_of (M.at program.old) machine.old.arch.pc) (state_of M.at machine.old) (next_state (state_of M.at machine.old)).arch.pc) (kept_of M.at tally.old)) }
+        ≡ after_visit (visit_here M.at calls program.old machine.old) (kept_of M.at tally.old)) }
     ensures same_state { OnErr result (state_of M.at machine.new ≡ state_of M.at machine.old) }
     ensures same_position { OnErr result (machine.new.position ≡ machine.old.position) }
     ensures same_kept { OnErr result (kept_of M.at tally.new ≡ kept_of M.at tally.old) }
     ensures wide { IfErr result (λ e. e ≡ Wide → IsWide
-        (rows_after (visit (with_mark calls) (word_of (M.at program.old) machine.old.arch.pc) (state_of M.at machine.old) (next_state (state_of M.at machine.old)).arch.pc) (kept_of M.at tally.old))) }
+        (rows_after (visit_here M.at calls program.old machine.old) (kept_of M.at tally.old))) }
 {
     tally.enter(alloc)?;
     let visit = look(machine, program, calls);
@@ -116,8 +116,8 @@ impl<M: Memory> Recording<M> {
         ensures calls { self.new.calls ≡ self.old.calls }
         ensures steps { OnOk result (self.new.machine.position ≡ self.old.machine.position + 1) }
         ensures stays { OnErr result (self.new.machine.position ≡ self.old.machine.position) }
-        ensures wide { IfErr result (λ e. e ≡ Wide → IsWide (kept (with_mark self.old.calls) (began M.at self.old) (self.old.machine.position + 1)).rows) }
-        ensures narrow { OnOk result (IsWide (kept (with_mark self.old.calls) (began M.at self.old) (self.old.machine.position + 1)).rows → ⊥) }
+        ensures wide { IfErr result (λ e. e ≡ Wide → IsNextWide M.at self.old) }
+        ensures narrow { OnOk result (IsNextWide M.at self.old → ⊥) }
     {
         step(
             alloc,
@@ -131,7 +131,7 @@ impl<M: Memory> Recording<M> {
     /// The profile of the run so far.
     pub fn profile(&self, alloc: Global) -> Result<Profile, AllocError>
         requires { IsRecorded M.at self.now }
-        ensures profile { IfOk result (λ f. IsProfileOf (with_mark self.now.calls) (began M.at self.now) self.now.machine.position f) }
+        ensures profile { IfOk result (λ f. IsProfileSoFar M.at self.now f) }
         ensures narrow { IfOk result (λ f. IsWide f.rows → ⊥) }
     {
         let rows = self.tally.close(alloc)?;

@@ -1,13 +1,13 @@
 //! Single rows of a profile while it is made.
 
-ghost use Rattle.std.specs.Prelude.{◌≡◌, ℕ, ◌<◌, ◌≤◌, ◌+◌, ◌++◌, ◌∷◌, [], false, length, take, IfOk, OnOk, OnErr, if◌then◌else◌, is_some, slice_get};
+ghost use Rattle.std.specs.Prelude.{◌≡◌, ◌<◌, ◌≤◌, ◌+◌, ◌++◌, ◌∷◌, [], false, length, take, IfOk, OnOk, OnErr, if◌then◌else◌, is_some};
 ghost use Rattle.std.specs.List.Sorted.{IsStrictlyIncreasing};
 ghost use Rattle.indexmap.specs.IndexMap.{values};
-ghost use Rattle.profile_data.specs.Profile.{target_count, row_at};
+ghost use Rattle.profile_data.specs.Profile.{row_at};
 ghost use Rattle.profile_data.specs.Keyed.{IsKeyed};
-ghost use Rattle.profile_laws.specs.Tally.{updated, as_read, counted, placed, with_target, fresh};
+ghost use Rattle.profile_laws.specs.Tally.{as_read, counted, placed, with_target, fresh};
 ghost use Rattle.profiler.specs.Visits.{visit_of};
-ghost use Rattle.profiler.specs.Rows.{HasRoom, EachHasRoom};
+ghost use Rattle.profiler.specs.Rows.{HasRoom, EachHasRoom, IsUpdated, IsCountedAt, HasMoreTargets, first_row};
 
 use crate::visit::Visit;
 use indexmap::IndexMap;
@@ -51,7 +51,7 @@ fn set_read(row: &mut Counts)
 /// Notes that what the store of a row put was read.
 pub(crate) fn mark_row(rows: &mut IndexMap<u32, Counts>, at: usize)
     requires { IsKeyed rows.old }
-    ensures rows { (pc : ℕ) → slice_get (values rows.old) at ≡ row_at (values rows.old) pc → values rows.new ≡ updated pc as_read (values rows.old) }
+    ensures rows { IsUpdated as_read at (values rows.old) (values rows.new) }
     ensures keyed { IsKeyed rows.new }
 {
     if let Some(row) = rows.get_index_mut(at) {
@@ -133,11 +133,11 @@ pub(crate) fn count_row(
 ) -> Result<usize, AllocError>
     requires keyed { IsKeyed rows.old }
     requires room { EachHasRoom (values rows.old) }
-    ensures rows { OnOk result ((pc : ℕ) → slice_get (values rows.old) at ≡ row_at (values rows.old) pc → values rows.new ≡ updated pc (counted (visit_of visit.now)) (values rows.old)) }
+    ensures rows { OnOk result (IsCountedAt visit.now at (values rows.old) (values rows.new)) }
     ensures err { OnErr result (values rows.new ≡ values rows.old) }
     ensures keyed { IsKeyed rows.new }
     ensures few { IfOk result (λ n. n ≤ 1) }
-    ensures added { IfOk result (λ n. target_count (values rows.new) ≡ target_count (values rows.old) + n) }
+    ensures added { IfOk result (λ n. HasMoreTargets (values rows.old) (values rows.new) n) }
 {
     match rows.get_index_mut(at) {
         Some(row) => count_in(row, visit),
@@ -288,11 +288,11 @@ pub(crate) fn count_new(
 ) -> Result<usize, AllocError>
     requires keyed { IsKeyed rows.old }
     requires new { is_some (row_at (values rows.old) visit.now.pc) ≡ false }
-    ensures rows { OnOk result (values rows.new ≡ values rows.old ++ counted (visit_of visit.now) (fresh visit.now.pc) ∷ []) }
+    ensures rows { OnOk result (values rows.new ≡ values rows.old ++ first_row visit.now ∷ []) }
     ensures err { OnErr result (values rows.new ≡ values rows.old) }
     ensures keyed { IsKeyed rows.new }
     ensures few { IfOk result (λ n. n ≤ 1) }
-    ensures added { IfOk result (λ n. target_count (values rows.new) ≡ target_count (values rows.old) + n) }
+    ensures added { IfOk result (λ n. HasMoreTargets (values rows.old) (values rows.new) n) }
 {
     let mut row = fresh(alloc, visit.pc);
     let added = count_in(&mut row, visit)?;

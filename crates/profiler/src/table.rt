@@ -1,13 +1,12 @@
 //! The rows of a profile while it is made.
 
-ghost use Rattle.std.specs.Prelude.{◌≡◌, ◌≤◌, ◌+◌, [], true, length, IfOk, IfSome, OnOk, OnErr, if◌then◌else◌, is_some, slice_get};
+ghost use Rattle.std.specs.Prelude.{◌≡◌, ◌≤◌, [], true, length, IfOk, IfSome, OnOk, OnErr, if◌then◌else◌, is_some};
 ghost use Rattle.std.specs.Bool.{OnTrue};
 ghost use Rattle.indexmap.specs.IndexMap.{values};
-ghost use Rattle.profile_data.specs.Profile.{target_count, row_at};
+ghost use Rattle.profile_data.specs.Profile.{row_at};
 ghost use Rattle.profile_data.specs.Keyed.{IsKeyed};
-ghost use Rattle.profile_laws.specs.Tally.{marked, visited};
-ghost use Rattle.profiler.specs.Visits.{visit_of};
-ghost use Rattle.profiler.specs.Rows.{EachHasRoom};
+ghost use Rattle.profile_laws.specs.Tally.{marked};
+ghost use Rattle.profiler.specs.Rows.{EachHasRoom, IsIndexOf, IsVisited, HasMoreTargets, AddsTargets};
 
 use crate::rows::{Counts, copy_at, count_new, count_row, first_target, mark_row, new_target};
 use crate::visit::Visit;
@@ -41,7 +40,7 @@ impl Table {
     #[inline(always)]
     fn has(&self, at: usize, pc: u32) -> bool
         requires { IsKeyed self.now.rows }
-        ensures row { OnTrue result (slice_get (values self.now.rows) at ≡ row_at (values self.now.rows) pc) }
+        ensures row { OnTrue result (IsIndexOf (values self.now.rows) at pc) }
         ensures found { OnTrue result (is_some (row_at (values self.now.rows) pc) ≡ true) }
     {
         match self.rows.get_index(at) {
@@ -55,7 +54,7 @@ impl Table {
     fn index(&mut self, pc: u32) -> Option<usize>
         requires { IsKeyed self.old.rows }
         ensures rows { self.new.rows ≡ self.old.rows }
-        ensures row { IfSome result (λ at. slice_get (values self.old.rows) at ≡ row_at (values self.old.rows) pc) }
+        ensures row { IfSome result (λ at. IsIndexOf (values self.old.rows) at pc) }
         ensures found { is_some result ≡ is_some (row_at (values self.old.rows) pc) }
     {
         let low = pc as usize / 4 % NEAR;
@@ -90,11 +89,11 @@ impl Table {
     pub fn count(&mut self, alloc: Global, visit: &Visit) -> Result<usize, AllocError>
         requires keyed { IsKeyed self.old.rows }
         requires room { EachHasRoom (values self.old.rows) }
-        ensures rows { OnOk result (values self.new.rows ≡ visited (visit_of visit.now) (values self.old.rows)) }
+        ensures rows { OnOk result (IsVisited visit.now self.old self.new) }
         ensures err { OnErr result (values self.new.rows ≡ values self.old.rows) }
         ensures keyed { IsKeyed self.new.rows }
         ensures few { IfOk result (λ n. n ≤ 1) }
-        ensures added { IfOk result (λ n. target_count (values self.new.rows) ≡ target_count (values self.old.rows) + n) }
+        ensures added { IfOk result (λ n. HasMoreTargets (values self.old.rows) (values self.new.rows) n) }
     {
         match self.index(visit.pc) {
             Some(at) => count_row(&mut self.rows, at, visit),
@@ -138,7 +137,7 @@ impl Table {
     pub fn new_targets(&self, visit: &Visit) -> usize
         requires keyed { IsKeyed self.now.rows }
         requires room { EachHasRoom (values self.now.rows) }
-        ensures added { target_count (visited (visit_of visit.now) (values self.now.rows)) ≡ target_count (values self.now.rows) + result }
+        ensures added { AddsTargets visit.now self.now result }
         ensures few { result ≤ 1 }
     {
         match self.rows.get(&visit.pc) {

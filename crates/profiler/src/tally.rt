@@ -6,12 +6,12 @@ ghost use Rattle.indexmap.specs.IndexMap.{values};
 ghost use Rattle.profile_data.specs.Profile.{target_count};
 ghost use Rattle.profile_data.specs.Keyed.{IsKeyed};
 ghost use Rattle.profile_laws.specs.Profiles.{IsWide};
-ghost use Rattle.profile_laws.specs.Tally.{nothing_kept, after_visit, rows_after, visited};
+ghost use Rattle.profile_laws.specs.Tally.{nothing_kept, after_visit};
 ghost use Rattle.access_trace.specs.Shadows.{mark_at};
 ghost use Rattle.profiler.specs.declared.owed.Owed.TheVariants.{Nothing, Entry, Marks};
 ghost use Rattle.profiler.specs.Visits.{visit_of};
-ghost use Rattle.profiler.specs.Rows.{EachHasRoom};
-ghost use Rattle.profiler.specs.Tally.{kept_of, base_of, IsTally};
+ghost use Rattle.profiler.specs.Rows.{EachHasRoom, IsVisited};
+ghost use Rattle.profiler.specs.Tally.{kept_of, rows_with, IsTally, IsWideWith};
 
 use crate::owed::Owed;
 use crate::reading::note_reads;
@@ -62,8 +62,8 @@ impl<M: Memory> Tally<M> {
         requires tally { IsTally M.at self.now }
         requires none { self.now.owed ≡ Nothing }
         requires room { EachHasRoom (values self.now.table.rows) }
-        ensures wide { OnTrue result (IsWide (rows_after (visit_of visit.now) (kept_of M.at self.now))) }
-        ensures narrow { OnFalse result (IsWide (rows_after (visit_of visit.now) (kept_of M.at self.now)) → ⊥) }
+        ensures wide { OnTrue result (IsWideWith M.at self.now visit.now) }
+        ensures narrow { OnFalse result (IsWideWith M.at self.now visit.now → ⊥) }
     {
         let rows = self.table.len() + self.table.new_rows(visit.pc);
         let targets = self.targets + self.table.new_targets(visit);
@@ -76,8 +76,8 @@ impl<M: Memory> Tally<M> {
         requires tally { IsTally M.at self.now }
         requires none { self.now.owed ≡ Nothing }
         requires room { EachHasRoom (values self.now.table.rows) }
-        ensures wide { OnTrue result (IsWide (rows_after (visit_of visit.now) (kept_of M.at self.now))) }
-        ensures narrow { OnFalse result (IsWide (rows_after (visit_of visit.now) (kept_of M.at self.now)) → ⊥) }
+        ensures wide { OnTrue result (IsWideWith M.at self.now visit.now) }
+        ensures narrow { OnFalse result (IsWideWith M.at self.now visit.now → ⊥) }
     {
         if self.table.len() < MOST_ROWS && self.targets < MOST_TARGETS {
             return false;
@@ -92,7 +92,7 @@ impl<M: Memory> Tally<M> {
         requires count { self.old.targets ≡ target_count (values self.old.table.rows) }
         requires few { IsWide (values self.old.table.rows) → ⊥ }
         requires room { EachHasRoom (values self.old.table.rows) }
-        ensures rows { OnOk result (values self.new.table.rows ≡ visited (visit_of visit.now) (values self.old.table.rows)) }
+        ensures rows { OnOk result (IsVisited visit.now self.old.table self.new.table) }
         ensures err { OnErr result (values self.new.table.rows ≡ values self.old.table.rows) }
         ensures keyed { IsKeyed self.new.table.rows }
         ensures count { self.new.targets ≡ target_count (values self.new.table.rows) }
@@ -111,7 +111,7 @@ impl<M: Memory> Tally<M> {
         requires none { self.old.owed ≡ Nothing }
         requires room { EachHasRoom (values self.old.table.rows) }
         requires claim { visit.now.claim < 2 ^ 32 - 1 }
-        requires narrow { IsWide (rows_after (visit_of visit.now) (kept_of M.at self.old)) → ⊥ }
+        requires narrow { IsWideWith M.at self.old visit.now → ⊥ }
         ensures kept { kept_of M.at self.new ≡ after_visit (visit_of visit.now) (kept_of M.at self.old) }
         ensures tally { IsTally M.at self.new }
     {
@@ -175,7 +175,7 @@ impl<M: Memory> Tally<M> {
     fn counted(&self, alloc: Global, visit: &Visit) -> Result<Table, AllocError>
         requires keyed { IsKeyed self.now.table.rows }
         requires room { EachHasRoom (values self.now.table.rows) }
-        ensures rows { IfOk result (λ t. values t.rows ≡ rows_after (visit_of visit.now) (base_of M.at self.now)) }
+        ensures rows { IfOk result (λ t. values t.rows ≡ rows_with M.at self.now visit.now) }
         ensures keyed { IfOk result (λ t. IsKeyed t.rows) }
     {
         let mut table = self.table.copy(alloc)?;
@@ -188,7 +188,7 @@ impl<M: Memory> Tally<M> {
     fn close_with(&self, alloc: Global, visit: &Visit) -> Result<IndexMap<u32, Row>, AllocError>
         requires keyed { IsKeyed self.now.table.rows }
         requires room { EachHasRoom (values self.now.table.rows) }
-        ensures rows { IfOk result (λ rows. values rows ≡ rows_after (visit_of visit.now) (base_of M.at self.now)) }
+        ensures rows { IfOk result (λ rows. values rows ≡ rows_with M.at self.now visit.now) }
         ensures keyed { IfOk result IsKeyed }
     {
         let table = self.counted(alloc, visit)?;

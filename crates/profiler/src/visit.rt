@@ -2,13 +2,9 @@
 
 ghost use Rattle.std.specs.Prelude.{◌≡◌, ◌-◌, ◌<◌, ◌^◌, IsNone};
 ghost use Rattle.cells.specs.Cells.{value};
-ghost use Rattle.cells.specs.Bytes.{word_of};
 ghost use Rattle.rv_word.specs.Spelling.{IsWellFormed};
-ghost use Rattle.rv_semantics.specs.Calls.{step as next_state};
 ghost use Rattle.seq_machine.specs.States.{state_of, arch_at};
-ghost use Rattle.profile_laws.specs.Profiles.{with_mark};
-ghost use Rattle.profile_laws.specs.Tally.{visit};
-ghost use Rattle.profiler.specs.Visits.{visit_of, jump_target};
+ghost use Rattle.profiler.specs.Visits.{visit_of, visit_here, jump_target};
 
 use access_trace::{ByteRange, is_counted, is_store, loaded, register, stored};
 use rv_step::{Arch, Memory};
@@ -56,7 +52,7 @@ pub(crate) fn look<M: Memory>(machine: &mut Machine<M>, program: &mut M, calls: 
     ensures end { machine.new.end ≡ machine.old.end }
     ensures position { machine.new.position ≡ machine.old.position }
     ensures program { M.at program.new ≡ M.at program.old }
-    ensures visit { visit_of result ≡ visit (with_mark calls) (word_of (M.at program.old) machine.old.arch.pc) (state_of M.at machine.old) (next_state (state_of M.at machine.old)).arch.pc }
+    ensures visit { visit_of result ≡ visit_here M.at calls program.old machine.old }
     ensures claim { result.claim < 2 ^ 32 - 1 }
 {
     let pc = machine.arch.pc;
