@@ -55,13 +55,14 @@ impl<M: Memory> Stage<M> {
         if self.machine.end.is_some() {
             return Ok(Effect::Idle);
         }
-        match e {
-            Event::Restart => self.restart(alloc),
-            Event::Serial => self.step(alloc),
-            Event::Master => self.drive(alloc),
-            Event::Slave(j) => self.run(alloc, j),
-            Event::Commit => self.commit(alloc),
-        }
+        let effect = match e {
+            Event::Restart => self.restart(alloc)?,
+            Event::Serial => self.step(alloc)?,
+            Event::Master => self.drive(alloc)?,
+            Event::Slave(j) => self.run(alloc, j)?,
+            Event::Commit => self.commit(alloc)?,
+        };
+        Ok(effect)
     }
 
     /// Whether an event surely finds nothing to do, seen at once: of the events that are idle while
