@@ -19,7 +19,7 @@ use command_line::Run;
 use memory::Memory;
 use nosquash::Pair;
 use outside::{Sink, Store};
-use speculative_runs::{behind, has_come, put_new, stand, turn, write_report};
+use speculative_runs::{behind, has_come, put_after, stand, turn, write_report};
 use std::alloc::Global;
 
 /// Gives the pair rounds until its run has ended or stands at the budget or past it, puts its output as
@@ -60,11 +60,11 @@ fn advance<O: Sink, M: Memory>(
             Err(_) => return Err(Answer::Memory),
         }
         let e = turn(slaves, place);
-        match pair.event(alloc, e) {
-            Ok(_) => {}
+        let effect = match pair.event(alloc, e) {
+            Ok(effect) => effect,
             Err(_) => return Err(Answer::Memory),
-        }
-        match put_new(alloc, out, pair, put) {
+        };
+        match put_after(alloc, out, pair, effect, put) {
             Ok(length) => put = length,
             Err(answer) => return Err(answer),
         }

@@ -1,11 +1,16 @@
 -- A machine that is given events, turn by turn: what was put, and where it is cut off.
-use Rattle.std.proofs.Common.{◌≡◌, ℕ, ◌+◌, ◌<◌, ◌≤◌, true, false, List, ◌++◌, length, drop, sym, ap, subst, ◌∙◌, arith, inl, inr, Option}
-use Rattle.std.proofs.lemmas.List.{length-append}
+use Rattle.std.proofs.Common.{◌≡◌, ℕ, ◌+◌, ◌<◌, ◌≤◌, true, false, List, [], ◌++◌, length, drop, sym, ap, subst, ◌∙◌, arith, inl, inr, Option}
+use Rattle.std.proofs.Transfers.{drop-appended}
+use Rattle.std.proofs.lemmas.List.{length-append, append-nil}
 use Rattle.std.proofs.lemmas.Bool.{cases_lt}
 use Rattle.outside.specs.Answers.{Gains}
 use Rattle.cells.specs.Run.{State}
+use Rattle.speculation.specs.declared.Effect.{Effect}
+use Rattle.speculation.specs.declared.Effect.TheVariants.{Idle}
+use Rattle.speculation.specs.declared.Event.{Event}
 use Rattle.speculation.specs.World.{World}
 use Rattle.speculation.specs.Engine.{Model}
+use Rattle.speculation_laws.specs.Told.{Tells}
 use Rattle.speculation_schedules.specs.Schedule.{has_come}
 use Rattle.report.proofs.Gained.{part_before}
 use Rattle.answers.specs.declared.answer.Answer.{Answer}
@@ -14,6 +19,17 @@ use Rattle.speculative_runs.specs.Driven.{Stops, CutOff}
 use Rattle.speculative_runs.specs.Speculated.{IsStop}
 use Rattle.speculative_runs.proofs.Parts.{part_within, whole_piece}
 use Rattle.speculative_runs.proofs.Stops.{IsCourse, stop_comes, outputs_grow}
+
+-- behind all of a list there is nothing
+pub nothing_behind : (n : ℕ) (bs : List ℕ) → n ≡ length bs → drop n bs ≡ []
+nothing_behind n bs all = ap (λ k. drop k bs) all ∙ drop-appended bs bs [] (sym (append-nil bs))
+
+-- where all was put before an idle event, all is put behind it
+pub all_put : (w : World) (m m' n : Model) (e : Event) (f : Effect) (put : ℕ) → Tells w m e f m' → m ≡ n → put ≡ length n.committed.env.output → f ≡ Idle
+    → put ≡ length m'.committed.env.output
+all_put w m m' n e f put told here all idle =
+    let same : Tells w m e Idle m' = subst (λ (x : Effect). Tells w m e x m') idle told in
+    all ∙ ap (λ (x : Model). length x.committed.env.output) (sym here) ∙ sym (ap (λ (x : Model). length x.committed.env.output) same)
 
 -- the names are those of the loop: so many events were given, and what was output after these was put
 module _ {start : State} {w : World} {models : ℕ → Model} {far most : ℕ} (course : IsCourse start w models far most) where

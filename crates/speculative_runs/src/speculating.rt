@@ -19,7 +19,7 @@ use answers::{Answer, Source};
 use command_line::Run;
 use event_list::Event;
 use memory::Memory;
-use nosquash::Pair;
+use nosquash::{Effect, Pair};
 use outside::{Sink, Store, StoreErr};
 use report::summary_bytes;
 use std::alloc::Global;
@@ -120,6 +120,35 @@ pub fn put_new<O: Sink, M: Memory>(
     }
 }
 
+/// Puts the output from a place on behind an event, and gives its length. Behind an idle event there is
+/// none: nothing is put, and no sink is asked.
+///
+/// # Errors
+///
+/// The answer that stops the run: the sink failed, or there was no memory.
+#[inline(always)]
+pub fn put_after<O: Sink, M: Memory>(
+    alloc: Global,
+    out: &mut O,
+    pair: &Pair<M>,
+    effect: Effect,
+    from: usize,
+) -> Result<usize, Answer>
+    requires from { from ≤ length (model_of M.at pair.now.engine).committed.env.output }
+    requires idle { effect ≡ Effect.Idle → from ≡ length (model_of M.at pair.now.engine).committed.env.output }
+    ensures length { IfOk result (λ n. n ≡ length (model_of M.at pair.now.engine).committed.env.output) }
+    ensures ok { OnOk result (Gains (O.told out.old) (O.told out.new)
+        (drop from (model_of M.at pair.now.engine).committed.env.output)) }
+    ensures err { IfErr result (Stops (O.told out.old) (O.told out.new) (O.faults out.old) (O.faults out.new)
+        (drop from (model_of M.at pair.now.engine).committed.env.output)) }
+    ensures faults { O.faults out.old ≤ O.faults out.new }
+{
+    match effect {
+        Effect::Idle => Ok(from),
+        _ => put_new(alloc, out, pair, from),
+    }
+}
+
 /// Gives the pair events until its run has ended or stands at the budget or past it, and puts its
 /// output as it comes.
 fn advance<O: Sink, M: Memory>(
@@ -151,11 +180,11 @@ fn advance<O: Sink, M: Memory>(
     let mut put = 0;
     while !has_come(pair, budget) {
         let e = event_at(schedule, slaves, place);
-        match pair.event(alloc, e) {
-            Ok(_) => {}
+        let effect = match pair.event(alloc, e) {
+            Ok(effect) => effect,
             Err(_) => return Err(Answer::Memory),
-        }
-        match put_new(alloc, out, pair, put) {
+        };
+        match put_after(alloc, out, pair, effect, put) {
             Ok(length) => put = length,
             Err(answer) => return Err(answer),
         }

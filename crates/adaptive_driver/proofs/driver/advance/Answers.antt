@@ -9,7 +9,7 @@ use Rattle.adaptive_runs.proofs.Worlds.{ready_model}
 use Rattle.report.proofs.Gained.{gains-none}
 use Rattle.speculative_runs.specs.Driven.{Stops}
 use Rattle.speculative_runs.proofs.Turns.{at_turn, start}
-use Rattle.speculative_runs.proofs.Advances.{stopped_here, no_memory, not_yet_too, room_to_put, put_too, stopped_there}
+use Rattle.speculative_runs.proofs.Advances.{all_put, stopped_here, no_memory, not_yet_too, room_to_put, put_too, stopped_there}
 use Rattle.adaptive_driver.specs.Adapted.{plan_with, stage_of}
 use Rattle.adaptive_driver.proofs.Course.{counted, begins, bound, next_stage, few_events, world_alike, readied, alike_still, run_on, course_of, stands_before}
 use Rattle.adaptive_driver.proofs.driver.advance.Goals as goal
@@ -108,8 +108,8 @@ returns-in-Err-event-clause-err g c =
     let course = course_of at e0 a0 c.requires.run c.requires.made c.requires.image some c.args.budget c.requires.least c.requires.running in
     no_memory course k i.not_yet (g.O.Sink.told c.args.out.now) (g.O.Sink.told c.loop-alloc.out) i.told (g.O.Sink.faults c.args.out.now) (g.O.Sink.faults c.loop-alloc.out)
 
-pub put_new-requires : goal.put_new-requires
-put_new-requires g c =
+pub put_after-requires-clause-from : goal.put_after-requires-clause-from
+put_after-requires-clause-from g c =
     let at = g.M.Memory.at in
     let e0 = c.args.pair.now.engine in
     let a0 = c.args.adapter.now in
@@ -137,8 +137,25 @@ put_new-requires g c =
     subst (λ (m : Model). c.loop-alloc.put ≤ length m.committed.env.output) (sym model)
     (room_to_put course k i.not_yet (g.O.Sink.told c.args.out.now) (g.O.Sink.told c.loop-alloc.out) i.told (k + 1) c.loop-alloc.put refl i.put goes)
 
-pub returns-in-Err-put_new-clause-err : goal.returns-in-Err-put_new-clause-err
-returns-in-Err-put_new-clause-err g c =
+pub put_after-requires-clause-idle : goal.put_after-requires-clause-idle
+put_after-requires-clause-idle g c =
+    let at = g.M.Memory.at in
+    let e0 = c.args.pair.now.engine in
+    let a0 = c.args.adapter.now in
+    let p = plan_with at e0 a0 in
+    let i = c.loop-alloc.invariant in
+    let k = c.loop-alloc.given in
+    let here : model_of at c.loop-alloc.pair.engine ≡ model_at p k = ap (λ (s : Stage). s.model) i.stage in
+    let e1 = c.make_ready.new.pair.engine in
+    let a1 = c.make_ready.new.adapter in
+    let at_place : k % (slaves_of c.loop-alloc.pair.engine + 7) ≡ c.loop-alloc.place = subst (λ n. k % (n + 7) ≡ c.loop-alloc.place) (c.requires.slaves ∙ sym i.slaves) i.place in
+    let is_ready : stage_of at e1 a1 ≡ ready p k (stage_of at c.loop-alloc.pair.engine c.loop-alloc.adapter) =
+    readied at c.loop-alloc.pair.engine e0 c.loop-alloc.adapter a0 i.alike i.slaves k (stage_of at e1 a1) (stage_of at c.loop-alloc.pair.engine c.loop-alloc.adapter) (c.in-Ok.ensures.stage k at_place) in
+    let same_model : model_of at e1 ≡ model_at p k = ap (λ (s : Stage). s.model) is_ready ∙ ready_model p k (stage_of at c.loop-alloc.pair.engine c.loop-alloc.adapter) ∙ here in
+    all_put (world_of at e1) (model_of at e1) (model_of at c.event.new.self.engine) (model_at p k) c.turn-e.result c.in-Ok-event.effect c.loop-alloc.put c.in-Ok-event.ensures.told same_model i.put
+
+pub returns-in-Err-put_after-clause-err : goal.returns-in-Err-put_after-clause-err
+returns-in-Err-put_after-clause-err g c =
     let at = g.M.Memory.at in
     let e0 = c.args.pair.now.engine in
     let a0 = c.args.adapter.now in
@@ -164,8 +181,8 @@ returns-in-Err-put_new-clause-err g c =
     (world_alike at e1 e0 a1 a0 c.in-Ok.ensures.run alike slaves) is_event (ap (λ x. x.1) c.in-Ok-event.ensures.ok) c.in-Ok-event.ensures.image refl refl in
     let model : model_of at e2 ≡ model_at p (k + 1) = ap (λ (s : Stage). s.model) next in
     stopped_there course k i.not_yet (g.O.Sink.told c.args.out.now) (g.O.Sink.told c.loop-alloc.out) i.told (k + 1) c.loop-alloc.put refl i.put goes
-    (g.O.Sink.told c.put_new.new.out) (g.O.Sink.faults c.args.out.now) (g.O.Sink.faults c.loop-alloc.out) (g.O.Sink.faults c.put_new.new.out) c.in-Err-put_new.answer i.faults
-    (subst (λ (m : Model). Stops (g.O.Sink.told c.loop-alloc.out) (g.O.Sink.told c.put_new.new.out) (g.O.Sink.faults c.loop-alloc.out) (g.O.Sink.faults c.put_new.new.out) (drop c.loop-alloc.put m.committed.env.output) c.in-Err-put_new.answer) model c.in-Err-put_new.ensures.err)
+    (g.O.Sink.told c.put_after.new.out) (g.O.Sink.faults c.args.out.now) (g.O.Sink.faults c.loop-alloc.out) (g.O.Sink.faults c.put_after.new.out) c.in-Err-put_after.answer i.faults
+    (subst (λ (m : Model). Stops (g.O.Sink.told c.loop-alloc.out) (g.O.Sink.told c.put_after.new.out) (g.O.Sink.faults c.loop-alloc.out) (g.O.Sink.faults c.put_after.new.out) (drop c.loop-alloc.put m.committed.env.output) c.in-Err-put_after.answer) model c.in-Err-put_after.ensures.err)
 
 pub overflow_add-given : goal.overflow_add-given
 overflow_add-given g c =
@@ -234,10 +251,10 @@ loop-alloc-preserved g c =
       not_yet = not_yet_too course k i.not_yet (g.O.Sink.told c.args.out.now) (g.O.Sink.told c.loop-alloc.out) i.told (k + 1) c.loop-alloc.put refl i.put goes;
       place = c.behind-place.ensures.next k i.place;
       within = c.behind-place.ensures.within;
-      put = c.in-Ok-put_new.ensures.length ∙ ap (λ (m : Model). length m.committed.env.output) model;
-      told = put_too course k i.not_yet (g.O.Sink.told c.args.out.now) (g.O.Sink.told c.loop-alloc.out) i.told (k + 1) c.loop-alloc.put refl i.put goes (g.O.Sink.told c.put_new.new.out)
-          (subst (λ (m : Model). Gains (g.O.Sink.told c.loop-alloc.out) (g.O.Sink.told c.put_new.new.out) (drop c.loop-alloc.put m.committed.env.output)) model c.in-Ok-put_new.ensures.ok);
-      faults = (let f = c.put_new.ensures.faults in omega (arith, f));
+      put = c.in-Ok-put_after.ensures.length ∙ ap (λ (m : Model). length m.committed.env.output) model;
+      told = put_too course k i.not_yet (g.O.Sink.told c.args.out.now) (g.O.Sink.told c.loop-alloc.out) i.told (k + 1) c.loop-alloc.put refl i.put goes (g.O.Sink.told c.put_after.new.out)
+          (subst (λ (m : Model). Gains (g.O.Sink.told c.loop-alloc.out) (g.O.Sink.told c.put_after.new.out) (drop c.loop-alloc.put m.committed.env.output)) model c.in-Ok-put_after.ensures.ok);
+      faults = (let f = c.put_after.ensures.faults in omega (arith, f));
     }
 
 pub returns-clause-ok : goal.returns-clause-ok

@@ -12,7 +12,7 @@ use Rattle.speculative_runs.specs.Speculated.{events_of}
 use Rattle.speculative_runs.proofs.Stops.{few_events, comes, its_course, counted_after, next_after, begins_after, silent_after}
 use Rattle.report.proofs.Gained.{gains-none}
 use Rattle.speculative_runs.proofs.Turns.{start}
-use Rattle.speculative_runs.proofs.Advances.{stopped_here, no_memory, not_yet_too, room_to_put, put_too, stopped_there}
+use Rattle.speculative_runs.proofs.Advances.{all_put, stopped_here, no_memory, not_yet_too, room_to_put, put_too, stopped_there}
 use Rattle.speculative_runs.proofs.speculating.advance.Goals as goal
 
 -- the same world, from its parts
@@ -62,8 +62,8 @@ returns-in-Err-clause-err g c =
     let course = its_course (start_of at e0) (image_of e0) (slaves_of e0) c.requires.image some c.args.schedule c.args.budget c.requires.least c.requires.running in
     no_memory course c.loop-alloc.given i.not_yet (g.O.Sink.told c.args.out.now) (g.O.Sink.told c.loop-alloc.out) i.told (g.O.Sink.faults c.args.out.now) (g.O.Sink.faults c.loop-alloc.out)
 
-pub put_new-requires : goal.put_new-requires
-put_new-requires g c =
+pub put_after-requires-clause-from : goal.put_after-requires-clause-from
+put_after-requires-clause-from g c =
     let at = g.M.Memory.at in
     let e0 = c.args.pair.now.engine in
     let i = c.loop-alloc.invariant in
@@ -77,8 +77,17 @@ put_new-requires g c =
     subst (λ (m : Model). c.loop-alloc.put ≤ length m.committed.env.output) (sym model)
     (room_to_put course c.loop-alloc.given i.not_yet (g.O.Sink.told c.args.out.now) (g.O.Sink.told c.loop-alloc.out) i.told (c.loop-alloc.given + 1) c.loop-alloc.put refl i.put goes)
 
-pub returns-in-Err-put_new-clause-err : goal.returns-in-Err-put_new-clause-err
-returns-in-Err-put_new-clause-err g c =
+pub put_after-requires-clause-idle : goal.put_after-requires-clause-idle
+put_after-requires-clause-idle g c =
+    let at = g.M.Memory.at in
+    let e0 = c.args.pair.now.engine in
+    let e1 = c.loop-alloc.pair.engine in
+    let i = c.loop-alloc.invariant in
+    all_put (world_of at e1) (model_of at e1) (model_of at c.event.new.self.engine) (after (world_of at e0) (events_of c.args.schedule (slaves_of e0)) c.loop-alloc.given) c.event_at-e.result c.in-Ok.effect c.loop-alloc.put
+    c.in-Ok.ensures.told i.model i.put
+
+pub returns-in-Err-put_after-clause-err : goal.returns-in-Err-put_after-clause-err
+returns-in-Err-put_after-clause-err g c =
     let at = g.M.Memory.at in
     let e0 = c.args.pair.now.engine in
     let i = c.loop-alloc.invariant in
@@ -90,8 +99,8 @@ returns-in-Err-put_new-clause-err g c =
     (c.event_at-e.ensures c.loop-alloc.given i.place ∙ ap (λ n. events_of c.args.schedule n c.loop-alloc.given) c.requires.slaves)
     (ap (λ x. x.1) c.in-Ok.ensures.ok ∙ ap (λ w. (happens w (model_of at c.loop-alloc.pair.engine) c.event_at-e.result).1) i.world) refl in
     stopped_there course c.loop-alloc.given i.not_yet (g.O.Sink.told c.args.out.now) (g.O.Sink.told c.loop-alloc.out) i.told (c.loop-alloc.given + 1) c.loop-alloc.put refl i.put goes
-    (g.O.Sink.told c.put_new.new.out) (g.O.Sink.faults c.args.out.now) (g.O.Sink.faults c.loop-alloc.out) (g.O.Sink.faults c.put_new.new.out) c.in-Err-put_new.answer i.faults
-    (subst (λ (m : Model). Stops (g.O.Sink.told c.loop-alloc.out) (g.O.Sink.told c.put_new.new.out) (g.O.Sink.faults c.loop-alloc.out) (g.O.Sink.faults c.put_new.new.out) (drop c.loop-alloc.put m.committed.env.output) c.in-Err-put_new.answer) model c.in-Err-put_new.ensures.err)
+    (g.O.Sink.told c.put_after.new.out) (g.O.Sink.faults c.args.out.now) (g.O.Sink.faults c.loop-alloc.out) (g.O.Sink.faults c.put_after.new.out) c.in-Err-put_after.answer i.faults
+    (subst (λ (m : Model). Stops (g.O.Sink.told c.loop-alloc.out) (g.O.Sink.told c.put_after.new.out) (g.O.Sink.faults c.loop-alloc.out) (g.O.Sink.faults c.put_after.new.out) (drop c.loop-alloc.put m.committed.env.output) c.in-Err-put_after.answer) model c.in-Err-put_after.ensures.err)
 
 pub overflow_add-given : goal.overflow_add-given
 overflow_add-given g c =
@@ -133,10 +142,10 @@ loop-alloc-preserved g c =
       not_yet = not_yet_too course c.loop-alloc.given i.not_yet (g.O.Sink.told c.args.out.now) (g.O.Sink.told c.loop-alloc.out) i.told (c.loop-alloc.given + 1) c.loop-alloc.put refl i.put goes;
       place = c.behind-place.ensures.next c.loop-alloc.given i.place;
       within = c.behind-place.ensures.within;
-      put = c.in-Ok-put_new.ensures.length ∙ ap (λ (m : Model). length m.committed.env.output) model;
-      told = put_too course c.loop-alloc.given i.not_yet (g.O.Sink.told c.args.out.now) (g.O.Sink.told c.loop-alloc.out) i.told (c.loop-alloc.given + 1) c.loop-alloc.put refl i.put goes (g.O.Sink.told c.put_new.new.out)
-          (subst (λ (m : Model). Gains (g.O.Sink.told c.loop-alloc.out) (g.O.Sink.told c.put_new.new.out) (drop c.loop-alloc.put m.committed.env.output)) model c.in-Ok-put_new.ensures.ok);
-      faults = (let f = c.put_new.ensures.faults in omega (arith, f));
+      put = c.in-Ok-put_after.ensures.length ∙ ap (λ (m : Model). length m.committed.env.output) model;
+      told = put_too course c.loop-alloc.given i.not_yet (g.O.Sink.told c.args.out.now) (g.O.Sink.told c.loop-alloc.out) i.told (c.loop-alloc.given + 1) c.loop-alloc.put refl i.put goes (g.O.Sink.told c.put_after.new.out)
+          (subst (λ (m : Model). Gains (g.O.Sink.told c.loop-alloc.out) (g.O.Sink.told c.put_after.new.out) (drop c.loop-alloc.put m.committed.env.output)) model c.in-Ok-put_after.ensures.ok);
+      faults = (let f = c.put_after.ensures.faults in omega (arith, f));
     }
 
 pub returns-clause-ok : goal.returns-clause-ok
