@@ -77,7 +77,8 @@ fn read_options<'a>(
     options: &'a [String],
 ) -> Distill<'a>
     requires { are_options distill_options (map string_bytes options.now) ≡ true }
-    ensures { shown_distill result ≡ distill_with program.now profile.now output.now (map string_bytes options.now) }
+    ensures { shown_distill result
+        ≡ distill_with program.now profile.now output.now (map string_bytes options.now) }
 {
     Distill {
         program,

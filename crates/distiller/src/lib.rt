@@ -52,7 +52,8 @@ pub fn distill(alloc: Global, p: &Program, f: &Profile, o: &Options) -> Result<I
 
     // What it lists of single addresses holds in the run that the profile is of, with either mark, where
     // nothing that came is cut.
-    ensures holds { IfOk result (λ image. (calls : Bool) (input : List ℕ) (n : ℕ) → IsProfileOf (with_mark calls) (start_of p.now input) n f.now
+    ensures holds { IfOk result (λ image. (calls : Bool) (input : List ℕ) (n : ℕ)
+        → IsProfileOf (with_mark calls) (start_of p.now input) n f.now
         → o.now.rare ≡ 0 → ListHolds (start_of p.now input) image f.now.rows n) }
 
     // There is an image only of a profile in which something is analysed.
@@ -90,7 +91,8 @@ pub fn distill_same(
 
     // What it lists of single addresses holds in the run that the profile is of, with either mark, where
     // nothing that came is cut and the values are those that the run loads.
-    ensures holds { IfOk result (λ image. (calls : Bool) (input : List ℕ) (n : ℕ) → IsProfileOf (with_mark calls) (start_of p.now input) n f.now
+    ensures holds { IfOk result (λ image. (calls : Bool) (input : List ℕ) (n : ℕ)
+        → IsProfileOf (with_mark calls) (start_of p.now input) n f.now
         → All (IsLoaded (start_of p.now input) n) same.now → o.now.rare ≡ 0 → ListHolds (start_of p.now input) image f.now.rows n) }
 
     // There is an image only of a profile in which something is analysed.

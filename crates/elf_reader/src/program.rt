@@ -42,7 +42,11 @@ impl Model for Program {
 
     ghost Value = { Executable };
 
-    ghost view = { λ program. record { entry = program.entry; parts = program.parts.items; first_break = program.first_break } };
+    ghost view = { λ program. record {
+      entry = program.entry;
+      parts = program.parts.items;
+      first_break = program.first_break;
+    } };
 
     // Contracts see the parts as lists of numbers, which are bytes.
     ghost invariant = { λ program. HaveBytes program.parts.items };

@@ -1,14 +1,14 @@
 //! Where one instruction leads.
 
-ghost use Rattle.std.specs.Prelude.{◌≡◌, filter, nat_eq, IfOk, [], unwrap_or};
+ghost use Rattle.std.specs.Prelude.{◌≡◌, filter, nat_eq, IfOk};
 ghost use Rattle.std.specs.Map.{lookup};
 ghost use Rattle.std.specs.Option.{option_copied};
 ghost use Rattle.std.specs.List.Sorted.{IsStrictlyIncreasing};
 ghost use Rattle.rv_word.specs.Meaning.{meaning};
-ghost use Rattle.fitting.specs.Claims.{among, leads_by};
+ghost use Rattle.fitting.specs.Claims.{among};
 ghost use Rattle.distill_rules.specs.Analysed.{analysed_row};
-ghost use Rattle.distill_rules.specs.Flow.{targets_by};
 ghost use Rattle.cuts.specs.Listed.{IsListed};
+ghost use Rattle.flow_graph.specs.Leads.{leads_from};
 
 use cuts::{CutList, analysed_row, is_among};
 use profile_data::{Profile, Row};
@@ -27,7 +27,7 @@ pub(crate) fn successors(
     requires listed { IsListed c.now }
     requires rises { IsStrictlyIncreasing pcs.now }
     ensures { IfOk result (λ next. next.items ≡ filter (among pcs.now)
-        (leads_by (lookup (nat_eq pc) c.now.cut) (unwrap_or (targets_by (meaning word) (analysed_row f.now.rows pc)) []) (among c.now.writes pc) pc (meaning word))) }
+        (leads_from (lookup (nat_eq pc) c.now.cut) (analysed_row f.now.rows pc) (among c.now.writes pc) pc (meaning word))) }
 {
     let instruction = decode(word);
     let to = leads(
@@ -50,7 +50,7 @@ fn leads(
     pc: u32,
     i: &Inst,
 ) -> Result<Vec<u32>, AllocError>
-    ensures { IfOk result (λ to. to.items ≡ leads_by cut (unwrap_or (targets_by i.now (option_copied row.entry)) []) prints pc i.now) }
+    ensures { IfOk result (λ to. to.items ≡ leads_from cut (option_copied row.entry) prints pc i.now) }
 {
     let mut to = Vec::new(alloc);
     match *i {

@@ -2,14 +2,9 @@
 use Rattle.std.proofs.Common.{◌≡◌, ℕ, ◌<◌, List, subst, Option, Result, Ok, Err, inr, refl}
 use Rattle.outside.specs.declared.SinkErr.{SinkErr}
 use Rattle.outside.specs.declared.SinkErr.TheVariants as put
-use Rattle.cells.specs.Run.{State}
 use Rattle.speculation.specs.declared.Event.{Event}
 use Rattle.speculation.specs.World.{World}
-use Rattle.speculation.specs.Engine.{fresh}
-use Rattle.speculation.proofs.Keeps.{fresh_holds, run_keeps}
-use Rattle.dist_image.specs.Image.{Distilled, IsImage}
 use Rattle.image_semantics.specs.World.{world}
-use Rattle.image_semantics.proofs.Known.{known}
 use Rattle.event_list.specs.Reading.{written_out}
 use Rattle.report.specs.Puts.{PutsText}
 use Rattle.command_line.specs.Command.{ReplayCommand}

@@ -1,6 +1,5 @@
 -- A report that was written, or not.
-use Rattle.std.proofs.Common.{◌≡◌, ◌≢◌, ℕ, ◌≤◌, arith, inl, inr, Bool, true, false, cond, List, [], Option, Some, None, refl, sym, ap, ◌∙◌}
-use Rattle.std.proofs.lemmas.List.{append-nil}
+use Rattle.std.proofs.Common.{◌≡◌, ◌≢◌, ℕ, ◌≤◌, arith, inl, inr, Bool, true, false, cond, List, Option, Some, None, refl, sym, ap, ◌∙◌}
 use Rattle.std.specs.FinMap as finite
 use Rattle.std.specs.Bool.{Decides}
 use Rattle.std.specs.Ordering.{nat_cmp, eq_by_cmp}
@@ -8,7 +7,6 @@ use Rattle.std.specs.Cmp.Lexicographic.{slice_cmp, texts_ties, bytes_decides, na
 use Rattle.std.proofs.Common.{subst}
 use Rattle.outside.specs.Answers.{OthersStay}
 use Rattle.outside.specs.Files.{Files}
-use Rattle.cells.specs.declared.End.{End}
 use Rattle.cells.specs.Run.{State}
 use Rattle.command_line.specs.Command.{RunCommand}
 use Rattle.dist_image.specs.Image.{Distilled}
@@ -21,17 +19,12 @@ use Rattle.engine.specs.declared.engine.Engine.{Engine}
 use Rattle.engine.specs.Whole.{start_of as engine_start}
 use Rattle.adapt.specs.Made.{Adapting}
 use Rattle.adaptive_driver.specs.Adapted.{plan_of, AreOfOneRun}
-use Rattle.speculation.specs.World.{World}
 use Rattle.speculation.specs.Engine.{Model}
 use Rattle.speculation_schedules.specs.Schedule.{after}
-use Rattle.speculative_runs.specs.declared.speculating.Schedule.{Schedule}
-use Rattle.report.specs.Events.{summary_text}
-use Rattle.report.proofs.Gained.{part_before}
 use Rattle.answers.specs.declared.answer.Answer.{Answer}
 use Rattle.answers.specs.declared.answer.Answer.TheVariants.{Usage, Absent, StoreFault, SinkFault, Memory, TooLong, Refused, Done, Ran, Budget, Broken}
-use Rattle.speculative_runs.specs.Told.{Reads, Puts, Got, OnlyChanges, Written}
-use Rattle.speculative_runs.specs.Driven.{stopped_at, stands, CutOff}
-use Rattle.speculative_runs.specs.Speculated.{schedule_of, events_of, IsStop, Unwritten, Stopped, Speculated}
+use Rattle.speculative_runs.specs.Told.{Reads, Puts, OnlyChanges, Written}
+use Rattle.speculative_runs.specs.Speculated.{schedule_of, events_of, Stopped, Speculated}
 use Rattle.mssp_tool.specs.Run.{Begins, AreRunFiles, Reported, RunFrom, RunCause, start_from, world_from, models_from}
 
 -- ---- the files that stay

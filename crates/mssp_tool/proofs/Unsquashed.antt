@@ -1,28 +1,13 @@
 -- What a replay puts and a report tells, by the laws against squashes.
-use Rattle.std.proofs.Common.{◌≡◌, ℕ, ◌<◌, zero, suc, Bool, true, false, cond, List, [], ◌∷◌, take, Option, Some, None, refl, sym, subst, inl, inr}
-use Rattle.std.specs.Prelude.{slice_get, option_map}
+use Rattle.std.proofs.Common.{◌≡◌, ℕ, ◌<◌, List, Option, Some, None, sym, subst, inl, inr}
+use Rattle.std.specs.Prelude.{option_map}
 use Rattle.outside.specs.Files.{Files}
-use Rattle.cells.specs.declared.End.{End}
-use Rattle.cells.specs.Run.{State, is_over}
+use Rattle.cells.specs.Run.{State}
 use Rattle.command_line.specs.Command.{Run, Replay, RunCommand, ReplayCommand, shown, shown_run, shown_replay}
 use Rattle.command_line.specs.declared.commands.Command.{Command as ReadCommand}
 use Rattle.command_line.specs.declared.commands.Command.TheVariants.{Run as ReadRun, Show as ReadShow, Replay as ReadReplay, Profile as ReadProfile, Values as ReadValues, Distill as ReadDistill, Check as ReadCheck, Certify as ReadCertify, Trial as ReadTrial}
-use Rattle.speculation.specs.declared.Counts.{Counts}
-use Rattle.speculation.specs.declared.Effect.{Effect}
-use Rattle.speculation.specs.declared.Effect.TheVariants.{Idle}
-use Rattle.speculation.specs.declared.Event.{Event}
-use Rattle.speculation.specs.declared.Event.TheVariants.{Serial as SerialEvent}
-use Rattle.speculation.specs.declared.Mode.{Mode}
-use Rattle.speculation.specs.declared.Mode.TheVariants.{Serial, Speculating}
-use Rattle.speculation.specs.World.{World}
-use Rattle.speculation.specs.Engine.{Model, run, effects, happens, fresh, counted, going_on, serial_step, told_end, counted_by}
-use Rattle.speculation.proofs.Keeps.{fresh_holds, run_keeps}
-use Rattle.squash_laws.specs.Tracks.{IsSafe}
-use Rattle.squash_laws.proofs.Safe.{happens_safe, run_tracks, fresh_tracks}
-use Rattle.dist_image.specs.Image.{Distilled, IsImage}
+use Rattle.dist_image.specs.Image.{Distilled}
 use Rattle.image_semantics.specs.World.{world}
-use Rattle.fitting_laws.specs.Setting.{setting}
-use Rattle.fitting_laws.proofs.Sets.{is_setting}
 use Rattle.nosquash.proofs.Clean.{clean}
 use Rattle.speculation_schedules.specs.Schedule.{after}
 use Rattle.event_list.specs.Reading.{written_out}

@@ -1,7 +1,7 @@
 -- The files that commands read and write, as the store tells them, and what a command comes to where it lacks one or one is not written.
 use Rattle.std.specs.Prelude.{◌≡◌, ℕ, ◌≤◌, ◌⊎◌, nat_lt, if◌then◌else◌, List, [], length, Option, Some, None, Result, Ok, Err}
 use Rattle.std.specs.FinMap as finite
-use Rattle.outside.specs.Answers.{Lacks, HasLonger, OthersStay}
+use Rattle.outside.specs.Answers.{Lacks, HasLonger}
 use Rattle.outside.specs.Files.{Files}
 use Rattle.dist_image.specs.declared.error.ImageErr.{ImageErr}
 use Rattle.dist_image.specs.Image.{Distilled, IsImage, nothing_known}

@@ -84,7 +84,8 @@ fn save_image<S: Store>(alloc: Global, store: &mut S, name: &str, image: &Image)
 
 /// Writes the image of a program and a profile, with the values of loads that are named.
 pub fn distill<S: Store>(alloc: Global, store: &mut S, distill: &Distill<'_>) -> Answer
-    ensures files { OnlyChanges (S.told store.old) (S.told store.new) (Some (shown_distill distill.now).output) }
+    ensures files { OnlyChanges (S.told store.old) (S.told store.new)
+        (Some (shown_distill distill.now).output) }
     ensures cause { DistillCause
         (record { told = S.told store.old; before = S.faults store.old; now = S.faults store.new; failed = S.failed store.new })
         (S.told store.new)

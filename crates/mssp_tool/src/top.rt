@@ -26,7 +26,8 @@ fn perform<S: Store, O: Sink>(
     out: &mut O,
     command: Command<'_>,
 ) -> Answer
-    ensures files { OnlyChanges (S.told store.old) (S.told store.new) (output_of (Some (shown command.entry))) }
+    ensures files { OnlyChanges (S.told store.old) (S.told store.new)
+        (output_of (Some (shown command.entry))) }
     ensures cause { Cause
         (record { told = S.told store.old; before = S.faults store.old; now = S.faults store.new; failed = S.failed store.new })
         (S.told store.new)
@@ -54,7 +55,8 @@ fn perform_words<S: Store, O: Sink>(
     out: &mut O,
     command: Option<Command<'_>>,
 ) -> Answer
-    ensures files { OnlyChanges (S.told store.old) (S.told store.new) (output_of (option_map shown command.entry)) }
+    ensures files { OnlyChanges (S.told store.old) (S.told store.new)
+        (output_of (option_map shown command.entry)) }
     ensures cause { Cause
         (record { told = S.told store.old; before = S.faults store.old; now = S.faults store.new; failed = S.failed store.new })
         (S.told store.new)
@@ -104,7 +106,8 @@ pub fn mssp<S: Store, O: Sink, E: Sink>(
         (record { told = E.told err.old; left = E.told err.new; before = E.faults err.old; now = E.faults err.new })
         (map string_bytes words.now)
         result }
-    ensures files { OnlyChanges (S.told store.old) (S.told store.new) (output_of (command_of (map string_bytes words.now))) }
+    ensures files { OnlyChanges (S.told store.old) (S.told store.new)
+        (output_of (command_of (map string_bytes words.now))) }
 {
     let command = read_command(words);
     let answer = perform_words(alloc, store, out, command);

@@ -68,6 +68,10 @@ Tells number p words steps image text =
     (v : Verdict) × (k : ℕ) × IsVerdict (start_of p []) image budget v × IsTrialStop w (drawn number 4) k
     × (text ≡ text_of words steps image v k (after w (drawn number 4) k))
 
+-- the profile of a program's run, in which no call is counted
+abbrev pub IsRunProfile : Executable → Profiled → Type 0
+IsRunProfile p f = IsProfileOf (with_mark false) (start_of p []) (steps (start_of p []) budget) f
+
 -- ---- the trial of a number and a size
 
 -- the program of a trial

@@ -34,7 +34,8 @@ pub fn trial_text(alloc: Global, seed: u64, size: u32) -> Result<Vec<u8>, TrialE
     requires few { size ≤ 10_000 }
     ensures done { IfOk result (λ text. (f : Profiled) × IsTrial seed size f text.items) }
     ensures wide { IsErrOf result TrialErr.Wide → (f : Profiled) → IsProfileMade seed size f → IsWide f.rows }
-    ensures empty { IsErrOf result TrialErr.Empty → (f : Profiled) × IsProfileMade seed size f × (IsWide f.rows → ⊥) × (analysed f.rows ≡ []) }
+    ensures empty { IsErrOf result TrialErr.Empty →
+        (f : Profiled) × IsProfileMade seed size f × (IsWide f.rows → ⊥) × (analysed f.rows ≡ []) }
 {
     let made = make_program(alloc, seed, size)?;
     let profile = make_profile(alloc, &made.program)?;

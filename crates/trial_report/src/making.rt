@@ -3,12 +3,11 @@
 ghost use Rattle.std.specs.Prelude.{◌≡◌, ◌≢◌, ◌≤◌, false, [], length, IfOk, IfErr, IsErrOf};
 ghost use Rattle.dist_image.specs.Image.{IsImage};
 ghost use Rattle.elf_reader.specs.Executable.{IsProgram};
-ghost use Rattle.seq_machine.specs.Parts.{start_of};
 ghost use Rattle.profile_data.specs.Profile.{Profiled};
-ghost use Rattle.profile_laws.specs.Profiles.{with_mark, steps, IsProfileOf, IsWide};
+ghost use Rattle.profile_laws.specs.Profiles.{IsWide};
 ghost use Rattle.distill_rules.specs.Analysed.{analysed};
 ghost use Rattle.trial.specs.Made.{words};
-ghost use Rattle.trial_report.specs.Trial.{budget, image_of, program_made};
+ghost use Rattle.trial_report.specs.Trial.{image_of, program_made, IsRunProfile};
 
 use crate::error::TrialErr;
 use dist_image::Image;
@@ -60,10 +59,10 @@ pub(crate) fn make_program(alloc: Global, seed: u64, size: u32) -> Result<Made, 
 /// The profile of the program's run.
 pub(crate) fn make_profile(alloc: Global, p: &Program) -> Result<Profile, TrialErr>
     requires { IsProgram p.now }
-    ensures profile { IfOk result (λ f. IsProfileOf (with_mark false) (start_of p.now []) (steps (start_of p.now []) budget) f) }
+    ensures profile { IfOk result (λ f. IsRunProfile p.now f) }
     ensures narrow { IfOk result (λ f. IsWide f.rows → ⊥) }
     ensures wide { IfErr result (λ e. e ≡ TrialErr.Wide →
-        (f : Profiled) → IsProfileOf (with_mark false) (start_of p.now []) (steps (start_of p.now []) budget) f → IsWide f.rows) }
+        (f : Profiled) → IsRunProfile p.now f → IsWide f.rows) }
     ensures never { IfErr result (λ e. e ≢ TrialErr.Empty) }
 {
     match profile(alloc, p, Vec::new(alloc), BUDGET, false) {

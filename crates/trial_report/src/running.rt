@@ -55,7 +55,8 @@ fn push_front(
 fn give<M: Memory>(alloc: Global, engine: &mut Engine<M>, number: u64) -> Result<u64, AllocError>
     requires { model_of M.at engine.old ≡ fresh (world_of M.at engine.old) }
     ensures stop { IfOk result (λ k. IsTrialStop (world_of M.at engine.old) (drawn number 4) k) }
-    ensures model { IfOk result (λ k. model_of M.at engine.new ≡ after (world_of M.at engine.old) (drawn number 4) k) }
+    ensures model { IfOk result (λ k.
+        model_of M.at engine.new ≡ after (world_of M.at engine.old) (drawn number 4) k) }
 {
     let mut draws = seeded(number, SLAVES);
     let mut given = 0;

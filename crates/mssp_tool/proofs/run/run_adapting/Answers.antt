@@ -1,5 +1,5 @@
 -- The machine runs from where the engine begins, beside an adapter of the same run.
-use Rattle.std.proofs.Common.{◌≡◌, ℕ, ◌≤◌, ◌^◌, Option, unwrap_or, ap, sym, refl, subst, ◌∙◌}
+use Rattle.std.proofs.Common.{ℕ, ◌≤◌, ◌^◌, Option, unwrap_or, ap, sym, subst, ◌∙◌}
 use Rattle.command_line.specs.Command.{shown_run}
 use Rattle.seq_machine.specs.States.{state_of}
 use Rattle.engine.specs.Whole.{start_of, image_of, slaves_of, world_of}
