@@ -92,6 +92,7 @@ impl Lines {
         ensures puts { (q : ℕ) → put_at self.new q ≡ put_at self.old q }
         ensures reads { (q : ℕ) → is_read self.new q ≡ (is_read self.old q || (nat_eq a q && not (is_some result))) }
         ensures room { spare self.new.map ≡ spare self.old.map }
+        ensures place { IsPlace self.new (a / 64) place }
     {
         let (_, line) = self.map.pair_mut(place);
         line.look(a % 64)
@@ -110,13 +111,14 @@ impl Lines {
         }
     }
 
-    // Four bytes of that line.
+    /// Four bytes of that line. Where none of them was put, they are recorded.
     #[inline(always)]
-    fn look_four(&mut self, place: usize, a: u32) -> Four
+    pub fn look_four(&mut self, place: usize, a: u32) -> Four
         requires place { IsPlace self.old (a / 64) place }
         requires within { a % 64 + 4 ≤ 64 }
         ensures is { FourAre result a self.old self.new }
         ensures room { spare self.new.map ≡ spare self.old.map }
+        ensures place { IsPlace self.new (a / 64) place }
     {
         let (_, line) = self.map.pair_mut(place);
         line.look_four(a % 64)

@@ -165,7 +165,7 @@ impl<M: Memory> View for Overlay<M> {
         match self.kept.lines.look_near(a) {
             Four::Checkpoint => self.mem.fetch(a),
             Four::Put(w) => w,
-            Four::Both => self.word_by_bytes(a),
+            Four::Both => self.word_in_line(a),
         }
     }
 
@@ -177,7 +177,7 @@ impl<M: Memory> View for Overlay<M> {
         match self.kept.lines.look_near(a) {
             Four::Checkpoint => self.mem.word(a),
             Four::Put(w) => w,
-            Four::Both => self.word_by_bytes(a),
+            Four::Both => self.word_in_line(a),
         }
     }
 
@@ -188,8 +188,11 @@ impl<M: Memory> View for Overlay<M> {
 }
 
 impl<M: Memory> Overlay<M> {
+    ghost use Rattle.std.specs.Prelude.{◌/◌, ◌%◌};
+    ghost use Rattle.cells.specs.declared.Cell.TheVariants.{Byte};
     ghost use Rattle.cells.specs.Bytes.{byte_cells, number};
-    ghost use Rattle.cells.specs.Seen.{read_cells};
+    ghost use Rattle.cells.specs.Seen.{look, read_cells};
+    ghost use Rattle.layers.specs.Lines.{IsPlace};
     ghost use Rattle.rv_semantics.specs.Values.{bytes_of, register_value, register_cell};
 
     /// Makes room for so many bytes that are read and so many that are put. Where it is there already this is done.
@@ -226,7 +229,70 @@ impl<M: Memory> Overlay<M> {
         self.regs[r as usize]
     }
 
-    // A word some of whose bytes were put, or that lies in two lines.
+    // A word that lies in one line, which may have to be brought.
+    #[inline(never)]
+    fn word_in_line(&mut self, a: u32) -> u32
+        requires room { 4 ≤ self.old.kept.reads }
+        requires within { a % 64 + 4 ≤ 64 }
+        ensures value { result ≡ number 4 a (bytes_of (seen_over M.at self.old).value) }
+        ensures seen { seen_over M.at self.new ≡ read_cells (byte_cells 4 a) (seen_over M.at self.old) }
+        ensures read_room { self.old.kept.reads ≤ self.new.kept.reads + 4 }
+        ensures write_room { self.old.kept.writes ≤ self.new.kept.writes }
+    {
+        let place = self.kept.place_to_read(a);
+        self.word_there(place, a)
+    }
+
+    // A word of the line at a place: where none or all of its bytes were put it is read at once.
+    #[inline(always)]
+    fn word_there(&mut self, place: usize, a: u32) -> u32
+        requires place { IsPlace self.old.kept.lines (a / 64) place }
+        requires within { a % 64 + 4 ≤ 64 }
+        ensures value { result ≡ number 4 a (bytes_of (seen_over M.at self.old).value) }
+        ensures seen { seen_over M.at self.new ≡ read_cells (byte_cells 4 a) (seen_over M.at self.old) }
+        ensures read_room { self.new.kept.reads ≡ self.old.kept.reads }
+        ensures write_room { self.new.kept.writes ≡ self.old.kept.writes }
+    {
+        match self.kept.lines.look_four(place, a) {
+            Four::Checkpoint => self.mem.word(a),
+            Four::Put(w) => w,
+            Four::Both => self.mixed_word(place, a),
+        }
+    }
+
+    // A word of the line at a place, byte by byte.
+    fn mixed_word(&mut self, place: usize, a: u32) -> u32
+        requires place { IsPlace self.old.kept.lines (a / 64) place }
+        requires within { a % 64 + 4 ≤ 64 }
+        ensures value { result ≡ number 4 a (bytes_of (seen_over M.at self.old).value) }
+        ensures seen { seen_over M.at self.new ≡ read_cells (byte_cells 4 a) (seen_over M.at self.old) }
+        ensures read_room { self.new.kept.reads ≡ self.old.kept.reads }
+        ensures write_room { self.new.kept.writes ≡ self.old.kept.writes }
+    {
+        let first = self.byte_there(place, a);
+        let second = self.byte_there(place, a.wrapping_add(1));
+        let third = self.byte_there(place, a.wrapping_add(2));
+        let last = self.byte_there(place, a.wrapping_add(3));
+        spell_four(first, second, third, last)
+    }
+
+    // A byte of the line at a place.
+    #[inline(always)]
+    fn byte_there(&mut self, place: usize, a: u32) -> u8
+        requires { IsPlace self.old.kept.lines (a / 64) place }
+        ensures value { result ≡ (seen_over M.at self.old).value (Byte a) }
+        ensures seen { seen_over M.at self.new ≡ look (Byte a) (seen_over M.at self.old) }
+        ensures place { IsPlace self.new.kept.lines (a / 64) place }
+        ensures read_room { self.new.kept.reads ≡ self.old.kept.reads }
+        ensures write_room { self.new.kept.writes ≡ self.old.kept.writes }
+    {
+        match self.kept.lines.look(place, a) {
+            Some(v) => v,
+            None => self.mem.get(a),
+        }
+    }
+
+    // A word that may lie in two lines.
     #[inline(never)]
     fn word_by_bytes(&mut self, a: u32) -> u32
         requires { 4 ≤ self.old.kept.reads }

@@ -40,11 +40,11 @@ returns-in-Both-clause-value g c =
     let v = c.args.self.now in
     let same = bytes_same (base_of g.M.Memory.at v) (has v.read_regs) (put_reg v.put_regs (slice_index v.set)) (is_read v.kept.lines) (is_read c.look_near.new.self) (put_at v.kept.lines) (put_at c.look_near.new.self)
     c.in-Both.ensures.is.puts c.in-Both.ensures.is.reads in
-    c.word_by_bytes.ensures.value ∙ ap (λ (s : Seen). number 4 c.args.a (bytes_of s.value)) same
+    c.word_in_line.ensures.value ∙ ap (λ (s : Seen). number 4 c.args.a (bytes_of s.value)) same
 
 pub returns-in-Both-clause-seen : goal.returns-in-Both-clause-seen
 returns-in-Both-clause-seen g c =
     let v = c.args.self.now in
     let same = bytes_same (base_of g.M.Memory.at v) (has v.read_regs) (put_reg v.put_regs (slice_index v.set)) (is_read v.kept.lines) (is_read c.look_near.new.self) (put_at v.kept.lines) (put_at c.look_near.new.self)
     c.in-Both.ensures.is.puts c.in-Both.ensures.is.reads in
-    c.word_by_bytes.ensures.seen ∙ ap (read_cells (byte_cells 4 c.args.a)) same
+    c.word_in_line.ensures.seen ∙ ap (read_cells (byte_cells 4 c.args.a)) same
