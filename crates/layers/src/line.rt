@@ -1,9 +1,8 @@
 //! Lines: 64 bytes of memory that lie together, with a mask of those that are recorded and one of those that were put.
-ghost use Rattle.std.specs.Prelude.{◌≡◌, ℕ, Bool, ◌+◌, ◌*◌, ◌/◌, ◌%◌, ◌<◌, ◌≤◌, ◌^◌, ◌||◌, ◌&&◌, not, cond, is_some, true, false, Some, None, nat_eq, OnOk, unwrap_or};
+ghost use Rattle.std.specs.Prelude.{◌≡◌, ℕ, Bool, ◌+◌, ◌<◌, ◌≤◌, ◌^◌, ◌||◌, true, false, Some, None, nat_eq, OnOk};
 ghost use Rattle.std.specs.Bool.{OnTrue};
-ghost use Rattle.cells.specs.Differ.{is_other};
 ghost use Rattle.layers.specs.Marks.{has, of_four};
-ghost use Rattle.layers.specs.Lines.{put_in, FourIs, lesser, IsLeast, row};
+ghost use Rattle.layers.specs.Lines.{put_in, puts_of, FourIs, IsMarkedUnlessPut, IsPutAt, IsLaidAt, AreLaidAt, lesser, other_byte, AreOthers, IsLeast, IsLeastFurther, in_line, row};
 
 use memory::Memory;
 use std::alloc::{AllocError, Global};
@@ -106,7 +105,7 @@ impl Line {
         requires { i < 64 }
         ensures value { result ≡ put_in (Some self.old) i }
         ensures puts { (j : ℕ) → put_in (Some self.new) j ≡ put_in (Some self.old) j }
-        ensures reads { (j : ℕ) → has self.new.read j ≡ (has self.old.read j || (nat_eq i j && not (is_some result))) }
+        ensures reads { IsMarkedUnlessPut i result (has self.old.read) (has self.new.read) }
     {
         if has(self.put, i) {
             return Some(self.bytes[i as usize]);
@@ -142,7 +141,7 @@ impl Line {
     #[inline(always)]
     pub fn write(&mut self, i: u32, v: u8)
         requires { i < 64 }
-        ensures puts { (j : ℕ) → put_in (Some self.new) j ≡ cond (nat_eq i j) (Some v) (put_in (Some self.old) j) }
+        ensures puts { IsPutAt i v (put_in (Some self.old)) (put_in (Some self.new)) }
         ensures read { self.new.read ≡ self.old.read }
     {
         self.put = with(self.put, i);
@@ -160,7 +159,7 @@ impl Line {
         least: Option<u32>,
     ) -> Option<u32>
         requires { i < 64 }
-        ensures { result ≡ lesser least (is_other (cond (has self.now.read i) (Some (M.at base.now a)) None) (M.at mem.now a)) a }
+        ensures { result ≡ lesser least (other_byte self.now (M.at base.now) (M.at mem.now) i a) a }
     {
         if has(self.read, i) && base.get(a) != mem.get(a) {
             return match least {
@@ -183,8 +182,7 @@ impl Line {
     ) -> Option<u32>
         requires number { number < 2 ^ 26 }
         requires within { i + 4 ≤ 64 }
-        ensures { (p done : ℕ → Bool) → ((j : ℕ) → j < 64 → p (64 * number + j) ≡ is_other (cond (has self.now.read j) (Some (M.at base.now (64 * number + j))) None) (M.at mem.now (64 * number + j)))
-            → IsLeast p (λ q. done q || row number i q) least → IsLeast p (λ q. done q || row number (i + 4) q) result }
+        ensures { IsLeastFurther self.now number (M.at base.now) (M.at mem.now) i (i + 4) least result }
     {
         let a = 64 * number + i;
         let first = self.lesser(i, a, base, mem, least);
@@ -205,8 +203,7 @@ impl Line {
     ) -> Option<u32>
         requires number { number < 2 ^ 26 }
         requires within { i + 4 ≤ 64 }
-        ensures { (p done : ℕ → Bool) → ((j : ℕ) → j < 64 → p (64 * number + j) ≡ is_other (cond (has self.now.read j) (Some (M.at base.now (64 * number + j))) None) (M.at mem.now (64 * number + j)))
-            → IsLeast p (λ q. done q || row number i q) least → IsLeast p (λ q. done q || row number (i + 4) q) result }
+        ensures { IsLeastFurther self.now number (M.at base.now) (M.at mem.now) i (i + 4) least result }
     {
         if bits_from(self.read, i) == 0 {
             return least;
@@ -226,8 +223,8 @@ impl Line {
         found: Option<u32>,
     ) -> Option<u32>
         requires { number < 2 ^ 26 }
-        ensures { (p done : ℕ → Bool) → ((j : ℕ) → j < 64 → p (64 * number + j) ≡ is_other (cond (has self.now.read j) (Some (M.at base.now (64 * number + j))) None) (M.at mem.now (64 * number + j)))
-            → IsLeast p done found → IsLeast p (λ q. done q || nat_eq number (q / 64)) result }
+        ensures { (p done : ℕ → Bool) → AreOthers p self.now number (M.at base.now) (M.at mem.now)
+            → IsLeast p done found → IsLeast p (λ q. done q || in_line number q) result }
     {
         if self.read == 0 {
             return found;
@@ -249,7 +246,7 @@ impl Line {
         mem: &mut M,
     ) -> Result<(), AllocError>
         requires { i < 64 }
-        ensures { OnOk result ((q : ℕ) → M.at mem.new q ≡ cond (nat_eq a q) (unwrap_or (put_in (Some self.now) i) (M.at mem.old q)) (M.at mem.old q)) }
+        ensures { OnOk result (IsLaidAt a (put_in (Some self.now) i) (M.at mem.old) (M.at mem.new)) }
     {
         if has(self.put, i) {
             return mem.put(alloc, a, &[self.bytes[i as usize]]);
@@ -268,8 +265,8 @@ impl Line {
     ) -> Result<(), AllocError>
         requires number { number < 2 ^ 26 }
         requires within { i + 4 ≤ 64 }
-        ensures { (old : ℕ → ℕ) → ((q : ℕ) → M.at mem.old q ≡ cond (row number i q) (unwrap_or (put_in (Some self.now) (q % 64)) (old q)) (old q))
-            → OnOk result ((q : ℕ) → M.at mem.new q ≡ cond (row number (i + 4) q) (unwrap_or (put_in (Some self.now) (q % 64)) (old q)) (old q)) }
+        ensures { (old : ℕ → ℕ) → AreLaidAt (row number i) (puts_of self.now) old (M.at mem.old)
+            → OnOk result (AreLaidAt (row number (i + 4)) (puts_of self.now) old (M.at mem.new)) }
     {
         let a = 64 * number + i;
         self.put_at(i, a, alloc, mem)?;
@@ -290,8 +287,8 @@ impl Line {
         requires number { number < 2 ^ 26 }
         requires within { i + 4 ≤ 64 }
         requires all { (j : ℕ) → of_four i j ≡ true → has self.now.put j ≡ true }
-        ensures { (old : ℕ → ℕ) → ((q : ℕ) → M.at mem.old q ≡ cond (row number i q) (unwrap_or (put_in (Some self.now) (q % 64)) (old q)) (old q))
-            → OnOk result ((q : ℕ) → M.at mem.new q ≡ cond (row number (i + 4) q) (unwrap_or (put_in (Some self.now) (q % 64)) (old q)) (old q)) }
+        ensures { (old : ℕ → ℕ) → AreLaidAt (row number i) (puts_of self.now) old (M.at mem.old)
+            → OnOk result (AreLaidAt (row number (i + 4)) (puts_of self.now) old (M.at mem.new)) }
     {
         let k = i as usize;
         let bytes = [
@@ -314,8 +311,8 @@ impl Line {
     ) -> Result<(), AllocError>
         requires number { number < 2 ^ 26 }
         requires within { i + 4 ≤ 64 }
-        ensures { (old : ℕ → ℕ) → ((q : ℕ) → M.at mem.old q ≡ cond (row number i q) (unwrap_or (put_in (Some self.now) (q % 64)) (old q)) (old q))
-            → OnOk result ((q : ℕ) → M.at mem.new q ≡ cond (row number (i + 4) q) (unwrap_or (put_in (Some self.now) (q % 64)) (old q)) (old q)) }
+        ensures { (old : ℕ → ℕ) → AreLaidAt (row number i) (puts_of self.now) old (M.at mem.old)
+            → OnOk result (AreLaidAt (row number (i + 4)) (puts_of self.now) old (M.at mem.new)) }
     {
         let put = bits_from(self.put, i);
         if put == 0 {
@@ -335,7 +332,7 @@ impl Line {
         mem: &mut M,
     ) -> Result<(), AllocError>
         requires { number < 2 ^ 26 }
-        ensures { OnOk result ((q : ℕ) → M.at mem.new q ≡ cond (nat_eq number (q / 64)) (unwrap_or (put_in (Some self.now) (q % 64)) (M.at mem.old q)) (M.at mem.old q)) }
+        ensures { OnOk result (AreLaidAt (in_line number) (puts_of self.now) (M.at mem.old) (M.at mem.new)) }
     {
         if self.put == 0 {
             return Ok(());

@@ -1,8 +1,7 @@
 //! Bytes by address, in lines that are found by their numbers.
-ghost use Rattle.std.specs.Prelude.{◌≡◌, ℕ, ◌+◌, ◌*◌, ◌<◌, ◌≤◌, ◌^◌, ◌/◌, ◌%◌, ◌||◌, ◌&&◌, not, cond, is_some, true, false, Some, None, nat_eq, OnOk, OnErr, IfSome, IfNone, unwrap_or};
+ghost use Rattle.std.specs.Prelude.{◌≡◌, ℕ, ◌+◌, ◌*◌, ◌<◌, ◌≤◌, ◌^◌, ◌/◌, ◌%◌, true, false, None, nat_eq, OnOk, IfSome, IfNone};
 ghost use Rattle.indexmap.specs.IndexMap.{get, spare};
-ghost use Rattle.cells.specs.Differ.{first_where, is_other};
-ghost use Rattle.layers.specs.Lines.{is_read, put_at, IsPlace, IsSame, FourAre, marked};
+ghost use Rattle.layers.specs.Lines.{is_read, put_at, IsPlace, IsSame, FourAre, IsMarkedUnlessPut, IsPutAt, AreLaid, IsFirstChanged, AreUnchanged};
 
 use crate::line::{Four, Line};
 use indexmap::IndexMap;
@@ -90,7 +89,7 @@ impl Lines {
         requires { IsPlace self.old (a / 64) place }
         ensures value { result ≡ put_at self.old a }
         ensures puts { (q : ℕ) → put_at self.new q ≡ put_at self.old q }
-        ensures reads { (q : ℕ) → is_read self.new q ≡ (is_read self.old q || (nat_eq a q && not (is_some result))) }
+        ensures reads { IsMarkedUnlessPut a result (is_read self.old) (is_read self.new) }
         ensures room { spare self.new.map ≡ spare self.old.map }
         ensures place { IsPlace self.new (a / 64) place }
     {
@@ -128,7 +127,7 @@ impl Lines {
     #[inline(always)]
     pub fn write(&mut self, place: usize, a: u32, v: u8)
         requires { IsPlace self.old (a / 64) place }
-        ensures puts { (q : ℕ) → put_at self.new q ≡ cond (nat_eq a q) (Some v) (put_at self.old q) }
+        ensures puts { IsPutAt a v (put_at self.old) (put_at self.new) }
         ensures reads { (q : ℕ) → is_read self.new q ≡ is_read self.old q }
         ensures room { spare self.new.map ≡ spare self.old.map }
     {
@@ -138,9 +137,9 @@ impl Lines {
 
     /// The least address whose byte is recorded and is another one in the second memory. Takes no memory.
     pub fn first_other<M: Memory>(&self, base: &M, mem: &M) -> Option<u32>
-        ensures first { result ≡ first_where (λ q. is_other (marked (is_read self.now) (M.at base.now) q) (M.at mem.now q)) (2 ^ 32) }
+        ensures first { IsFirstChanged (2 ^ 32) (is_read self.now) (M.at base.now) (M.at mem.now) result }
         ensures recorded { IfSome result (λ a. is_read self.now a ≡ true) }
-        ensures none { IfNone result ((q : ℕ) → is_other (marked (is_read self.now) (M.at base.now) q) (M.at mem.now q) ≡ false) }
+        ensures none { IfNone result (AreUnchanged (is_read self.now) (M.at base.now) (M.at mem.now)) }
     {
         let mut least = None;
         for place in 0..self.map.len() {
@@ -155,7 +154,7 @@ impl Lines {
 
     /// Puts all that was put. Without memory for it some may be put.
     pub fn put_into<M: Memory>(&self, alloc: Global, mem: &mut M) -> Result<(), AllocError>
-        ensures { OnOk result ((q : ℕ) → M.at mem.new q ≡ unwrap_or (put_at self.now q) (M.at mem.old q)) }
+        ensures { OnOk result (AreLaid (put_at self.now) (M.at mem.old) (M.at mem.new)) }
     {
         for place in 0..self.map.len() {
             if let Some((number, line)) = self.map.get_index(place) {

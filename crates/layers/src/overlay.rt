@@ -1,10 +1,10 @@
 //! Registers and bytes over a checkpoint that stays: what was put, and marks of what was read.
-ghost use Rattle.std.specs.Prelude.{◌≡◌, ℕ, ◌<◌, ◌≤◌, ◌+◌, ◌*◌, ◌^◌, OnOk, OnErr, IsOk, IfSome, IfNone, None, true, false, unwrap_or, slice_index, ◌||◌, nat_eq};
+ghost use Rattle.std.specs.Prelude.{◌≡◌, ℕ, ◌<◌, ◌≤◌, ◌+◌, ◌*◌, ◌^◌, OnOk, OnErr, IsOk, IfSome, IfNone, None, true, slice_index, ◌||◌, nat_eq};
 ghost use Rattle.layers.specs.Marks.{has};
-ghost use Rattle.cells.specs.declared.Cell.{Cell};
-ghost use Rattle.cells.specs.Differ.{differ, differs, first_where, is_other};
+ghost use Rattle.cells.specs.Differ.{differ};
 ghost use Rattle.rv_semantics.specs.Values.{plain_value};
-ghost use Rattle.layers.specs.Layered.{seen_over, begun, laid, put_reg};
+ghost use Rattle.layers.specs.Lines.{AreLaid, IsFirstChanged, AreUnchanged};
+ghost use Rattle.layers.specs.Layered.{seen_over, values_of, begun, put_reg, AreMet, IsLaid};
 
 use crate::line::Four;
 use crate::lines::Lines;
@@ -53,8 +53,8 @@ impl<M: Memory> Overlay<M> {
     /// First comes the pc, then the registers by number, then the bytes by address. With None no
     /// recorded cell differs. Takes no memory.
     pub fn compare(&self, a: &Arch<M>) -> Option<Differ>
-        ensures first { result ≡ differ (seen_over M.at self.now).recorded (plain_value a.now.pc a.now.regs (M.at a.now.mem)) }
-        ensures none { IfNone result ((x : Cell) → differs (seen_over M.at self.now).recorded (plain_value a.now.pc a.now.regs (M.at a.now.mem)) x ≡ false) }
+        ensures first { result ≡ differ (seen_over M.at self.now).recorded (values_of M.at a.now) }
+        ensures none { IfNone result (AreMet (seen_over M.at self.now).recorded (values_of M.at a.now)) }
     {
         if self.start != a.pc {
             return Some(Differ {
@@ -86,8 +86,8 @@ impl<M: Memory> Overlay<M> {
     ///
     /// Want of memory. The state is then as it was.
     pub fn apply(&self, alloc: Global, pc: u32, a: &mut Arch<M>) -> Result<(), AllocError>
-        ensures ok { OnOk result (plain_value a.new.pc a.new.regs (M.at a.new.mem) ≡ laid pc (seen_over M.at self.now) (plain_value a.old.pc a.old.regs (M.at a.old.mem))) }
-        ensures err { OnErr result (plain_value a.new.pc a.new.regs (M.at a.new.mem) ≡ plain_value a.old.pc a.old.regs (M.at a.old.mem)) }
+        ensures ok { OnOk result (IsLaid M.at pc (seen_over M.at self.now) a.old a.new) }
+        ensures err { OnErr result (values_of M.at a.new ≡ values_of M.at a.old) }
     {
         let mut mem = a.mem.snapshot(alloc)?;
         self.kept.lines.put_into(alloc, &mut mem)?;
@@ -100,10 +100,10 @@ impl<M: Memory> Overlay<M> {
 
 // The first register that is marked and has another value in the second array.
 fn first_register(marks: u32, base: &[u32; 32], regs: &[u32; 32]) -> Option<u8>
-    ensures first { result ≡ first_where (λ n. is_other (put_reg marks (slice_index base.now) n) (slice_index regs.now n)) 32 }
+    ensures first { IsFirstChanged 32 (has marks) (slice_index base.now) (slice_index regs.now) result }
     ensures within { IfSome result (λ r. r < 32) }
     ensures recorded { IfSome result (λ r. has marks r ≡ true) }
-    ensures none { IfNone result ((n : ℕ) → is_other (put_reg marks (slice_index base.now) n) (slice_index regs.now n) ≡ false) }
+    ensures none { IfNone result (AreUnchanged (has marks) (slice_index base.now) (slice_index regs.now)) }
 {
     for i in 0..32 {
         if has_register(marks, i as u8) && base[i] != regs[i] {
@@ -115,7 +115,7 @@ fn first_register(marks: u32, base: &[u32; 32], regs: &[u32; 32]) -> Option<u8>
 
 // Sets the registers that are marked.
 fn lay_registers(marks: u32, set: &[u32; 32], regs: &mut [u32; 32])
-    ensures { (n : ℕ) → slice_index regs.new n ≡ unwrap_or (put_reg marks (slice_index set.now) n) (slice_index regs.old n) }
+    ensures { AreLaid (put_reg marks (slice_index set.now)) (slice_index regs.old) (slice_index regs.new) }
 {
     for i in 0..32 {
         if has_register(marks, i as u8) {

@@ -1,7 +1,7 @@
 //! The lines of a task, with room for more: only making room takes memory.
 ghost use Rattle.std.specs.Prelude.{◌≡◌, ℕ, ◌+◌, ◌<◌, ◌≤◌, ◌/◌, OnOk, max, length};
 ghost use Rattle.indexmap.specs.IndexMap.{spare};
-ghost use Rattle.layers.specs.Lines.{IsPlace, IsSame, is_read, put_at, at_puts};
+ghost use Rattle.layers.specs.Lines.{IsPlace, IsSame, is_read, put_at, ArePutFrom};
 
 use crate::lines::Lines;
 use std::alloc::{AllocError, Global};
@@ -102,7 +102,7 @@ impl Record {
     /// Puts bytes from an address on. After the last address comes 0.
     pub fn put_all(&mut self, a: u32, bytes: &[u8])
         requires { length bytes.now ≤ self.old.writes }
-        ensures puts { (q : ℕ) → put_at self.new.lines q ≡ at_puts a bytes.now (put_at self.old.lines) q }
+        ensures puts { ArePutFrom a bytes.now (put_at self.old.lines) (put_at self.new.lines) }
         ensures marks { (q : ℕ) → is_read self.new.lines q ≡ is_read self.old.lines q }
         ensures writes { self.old.writes ≤ self.new.writes + length bytes.now }
         ensures reads { self.new.reads ≡ self.old.reads }

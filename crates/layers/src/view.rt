@@ -1,14 +1,11 @@
 //! A task's view: what it reads and puts over its checkpoint, and what it prints.
-ghost use Rattle.std.specs.Prelude.{◌≡◌, ℕ, ◌≤◌, ◌<◌, ◌+◌, ◌%◌, ◌++◌, List, [], ◌∷◌, OnOk, OnErr, IsOk, IfOk, IfNone, true, false, vec_len, vec_capacity};
-ghost use Rattle.cells.specs.declared.Cell.{Cell};
-ghost use Rattle.cells.specs.declared.Cell.TheVariants.{Reg};
-ghost use Rattle.cells.specs.Bytes.{byte_cells, bytes_from, number};
-ghost use Rattle.cells.specs.Differ.{differ, differs};
+ghost use Rattle.std.specs.Prelude.{◌≡◌, ◌≤◌, ◌<◌, ◌+◌, ◌%◌, ◌++◌, [], ◌∷◌, OnOk, OnErr, IsOk, IfOk, IfNone, true, vec_len, vec_capacity};
+ghost use Rattle.cells.specs.Bytes.{byte_cells, number};
+ghost use Rattle.cells.specs.Differ.{differ};
 ghost use Rattle.cells.specs.Seen.{read_cells};
 ghost use Rattle.rv_semantics.specs.Values.{plain_value, bytes_of};
 ghost use Rattle.rv_semantics.specs.Prints.{is_short_write, arguments};
-ghost use Rattle.rv_step.specs.Outcome.{step_outcome};
-ghost use Rattle.layers.specs.Layered.{seen_of, output_of, HasRoom, begun, laid, after_write, written_bytes};
+ghost use Rattle.layers.specs.Layered.{seen_of, output_of, values_of, argument_values, bytes_seen, HasRoom, KeepsRoom, KeepsRoomBut, HasPrinted, IsStepped, AreMet, IsLaid, begun, after_write, written_bytes};
 
 use crate::overlay::Overlay;
 use cells::Differ;
@@ -58,8 +55,8 @@ impl<M: Memory> TaskView<M> {
     /// First comes the pc, then the registers by number, then the bytes by address. With None no
     /// recorded cell differs. Takes no memory.
     pub fn compare(&self, a: &Arch<M>) -> Option<Differ>
-        ensures first { result ≡ differ (seen_of M.at self.now).recorded (plain_value a.now.pc a.now.regs (M.at a.now.mem)) }
-        ensures none { IfNone result ((x : Cell) → differs (seen_of M.at self.now).recorded (plain_value a.now.pc a.now.regs (M.at a.now.mem)) x ≡ false) }
+        ensures first { result ≡ differ (seen_of M.at self.now).recorded (values_of M.at a.now) }
+        ensures none { IfNone result (AreMet (seen_of M.at self.now).recorded (values_of M.at a.now)) }
     {
         self.cells.compare(a)
     }
@@ -77,9 +74,9 @@ impl<M: Memory> TaskView<M> {
         a: &mut Arch<M>,
         out: &mut Vec<u8>,
     ) -> Result<(), AllocError>
-        ensures state { OnOk result (plain_value a.new.pc a.new.regs (M.at a.new.mem) ≡ laid pc (seen_of M.at self.now) (plain_value a.old.pc a.old.regs (M.at a.old.mem))) }
+        ensures state { OnOk result (IsLaid M.at pc (seen_of M.at self.now) a.old a.new) }
         ensures output { OnOk result (out.new.items ≡ out.old.items ++ output_of self.now) }
-        ensures err_state { OnErr result (plain_value a.new.pc a.new.regs (M.at a.new.mem) ≡ plain_value a.old.pc a.old.regs (M.at a.old.mem)) }
+        ensures err_state { OnErr result (values_of M.at a.new ≡ values_of M.at a.old) }
         ensures err_output { OnErr result (out.new.items ≡ out.old.items) }
     {
         out.reserve(self.output.len())?;
@@ -100,7 +97,7 @@ impl<M: Memory> TaskView<M> {
         requires aligned { pc % 4 ≡ 0 }
         requires room { HasRoom self.old 10 5 0 }
         ensures sure { IsOk result }
-        ensures ok { IfOk result (λ flow. record { flow = flow; seen = seen_of M.at self.new } ≡ step_outcome pc (seen_of M.at self.old)) }
+        ensures ok { IfOk result (IsStepped pc (seen_of M.at self.old) (seen_of M.at self.new)) }
         ensures output { output_of self.new ≡ output_of self.old }
     {
         rv_step::step(alloc, &mut self.cells, pc)
@@ -139,10 +136,10 @@ impl<M: Memory> TaskView<M> {
     /// None: each register has a mark, so that this takes no memory.
     pub fn call_args(&mut self) -> Result<[u32; 4], AllocError>
         ensures sure { IsOk result }
-        ensures value { IfOk result (λ args. args ≡ (seen_of M.at self.old).value (Reg 10) ∷ (seen_of M.at self.old).value (Reg 11) ∷ (seen_of M.at self.old).value (Reg 12) ∷ (seen_of M.at self.old).value (Reg 17) ∷ []) }
+        ensures value { IfOk result (λ args. args ≡ argument_values (seen_of M.at self.old)) }
         ensures seen { seen_of M.at self.new ≡ read_cells arguments (seen_of M.at self.old) }
         ensures output { output_of self.new ≡ output_of self.old }
-        ensures room { (reads writes bytes : ℕ) → HasRoom self.old reads writes bytes → HasRoom self.new reads writes bytes }
+        ensures room { KeepsRoom self.old self.new }
     {
         let descriptor = self.cells.register(10);
         let from = self.cells.register(11);
@@ -163,7 +160,7 @@ impl<M: Memory> TaskView<M> {
         requires { is_short_write (seen_of M.at self.old).value ≡ true }
         ensures sure { HasRoom self.old 256 1 256 → IsOk result }
         ensures seen { OnOk result (seen_of M.at self.new ≡ after_write (seen_of M.at self.old)) }
-        ensures output { OnOk result (output_of self.new ≡ output_of self.old ++ written_bytes (seen_of M.at self.old)) }
+        ensures output { OnOk result (HasPrinted (written_bytes (seen_of M.at self.old)) self.old self.new) }
         ensures err_seen { OnErr result (seen_of M.at self.new ≡ seen_of M.at self.old) }
         ensures err_output { OnErr result (output_of self.new ≡ output_of self.old) }
     {
@@ -179,7 +176,7 @@ impl<M: Memory> TaskView<M> {
     fn show(&mut self, from: u32, count: u32)
         requires { HasRoom self.old count 0 count }
         ensures seen { seen_of M.at self.new ≡ read_cells (byte_cells count from) (seen_of M.at self.old) }
-        ensures output { output_of self.new ≡ output_of self.old ++ bytes_from count from (bytes_of (seen_of M.at self.old).value) }
+        ensures output { HasPrinted (bytes_seen count from (seen_of M.at self.old)) self.old self.new }
         ensures room { self.old.cells.kept.writes ≤ self.new.cells.kept.writes }
     {
         for i in 0..count {
@@ -244,7 +241,7 @@ impl<M: Memory> View for TaskView<M> {
         requires room { 4 ≤ self.old.cells.kept.reads }
         ensures value { result ≡ number 4 a (bytes_of (seen_of M.at self.old).value) }
         ensures seen { seen_of M.at self.new ≡ read_cells (byte_cells 4 a) (seen_of M.at self.old) }
-        ensures room { (reads writes bytes : ℕ) → HasRoom self.old (reads + 4) writes bytes → HasRoom self.new reads writes bytes }
+        ensures room { KeepsRoomBut 4 self.old self.new }
         ensures output { output_of self.new ≡ output_of self.old }
     {
         self.cells.fetch(a)

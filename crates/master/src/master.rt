@@ -1,13 +1,10 @@
 //! The master and its events.
-ghost use Rattle.std.specs.Prelude.{◌≡◌, ◌==◌, if◌then◌else◌, ℕ, ◌+◌, ◌*◌, ◌-◌, ◌^◌, ◌<◌, length, slice_get, true, false, ◌&&◌, IfOk, OnErr};
-ghost use Rattle.rv_semantics.specs.Values.{arch_of};
+ghost use Rattle.std.specs.Prelude.{◌≡◌, ◌==◌, if◌then◌else◌, ℕ, ◌+◌, ◌*◌, ◌-◌, ◌^◌, ◌<◌, length, slice_get, true, false, IfOk, OnErr};
 ghost use Rattle.rv_word.specs.Meaning.{meaning};
-ghost use Rattle.dist_image.specs.Image.{IsImage, slot_of as place_of, prints_at};
-ghost use Rattle.cells.specs.Cells.{value};
-ghost use Rattle.rv_semantics.specs.Prints.{is_short_write};
-ghost use Rattle.image_semantics.specs.World.{drive, begin_behind, fork as forked, go_to, exec_at};
+ghost use Rattle.dist_image.specs.Image.{IsImage};
+ghost use Rattle.image_semantics.specs.World.{drive, begin_behind};
 ghost use Rattle.rv_semantics.specs.Effect.{is_store as stores};
-ghost use Rattle.master.specs.Shown.{shown, next_spawn, called, as_driven, Keeps, SpawnsNext};
+ghost use Rattle.master.specs.Shown.{arch_at, shown, next_spawn, forked, gone, executed, is_answered, called, moved_to, DoesAs, Keeps, SpawnsNext};
 ghost use Rattle.master.specs.Shown as spec;
 
 use crate::places::Places;
@@ -74,7 +71,7 @@ impl<M: Memory> Master<M> {
     /// Want of memory alone.
     pub fn begin(alloc: Global, anchor: &Anchor, a: &Arch<M>) -> Result<Master<M>, AllocError>
         requires { anchor.now.slot < 1_048_576 }
-        ensures { IfOk result (λ m. shown M.at m ≡ begin_behind (arch_of a.now.pc a.now.regs (M.at a.now.mem)) (Some anchor.now)) }
+        ensures { IfOk result (λ m. shown M.at m ≡ begin_behind (arch_at M.at a.now) (Some anchor.now)) }
     {
         let arch = Arch {
             pc: a.pc,
@@ -120,7 +117,7 @@ impl<M: Memory> Master<M> {
         room: bool,
     ) -> Result<MasterDid, AllocError>
         requires { IsImage image.now }
-        ensures ok { IfOk result (λ d. as_driven image.now d (shown M.at self.new) ≡ drive image.now room (shown M.at self.old)) }
+        ensures ok { IfOk result (DoesAs M.at image.now (drive image.now room) self.old self.new) }
         ensures spawned { IfOk result (SpawnsNext (next_spawn image.now (shown M.at self.old))) }
         ensures stays { IfOk result (Keeps (shown M.at self.old) (shown M.at self.new)) }
         ensures sure { OnErr result (next_spawn image.now (shown M.at self.old) ≡ None) }
@@ -163,7 +160,7 @@ impl<M: Memory> Master<M> {
         requires anchor { anchor < length image.now.anchors }
         requires slot { self.old.slot < 1_048_576 }
         requires spent { self.old.spent < 2 ^ 32 - 1 }
-        ensures ok { as_driven image.now result (shown M.at self.new) ≡ forked room (shown M.at self.old) (slice_get image.now.anchors anchor) }
+        ensures ok { DoesAs M.at image.now (forked image.now room anchor) self.old self.new result }
         ensures spawned { SpawnsNext (if self.old.left == 1 then Some anchor else None) result }
         ensures stays { Keeps (shown M.at self.old) (shown M.at self.new) result }
     {
@@ -184,7 +181,7 @@ impl<M: Memory> Master<M> {
     fn go(&mut self, image: &Image, target: u32) -> MasterDid
         requires image { IsImage image.now }
         requires spent { self.old.spent < 2 ^ 32 - 1 }
-        ensures ok { as_driven image.now result (shown M.at self.new) ≡ go_to (shown M.at self.old) (shown M.at self.old).arch (place_of image.now target) }
+        ensures ok { DoesAs M.at image.now (gone image.now target) self.old self.new result }
         ensures spawned { SpawnsNext None result }
         ensures stays { Keeps (shown M.at self.old) (shown M.at self.new) result }
     {
@@ -204,7 +201,7 @@ impl<M: Memory> Master<M> {
     ) -> Result<MasterDid, AllocError>
         requires image { IsImage image.now }
         requires spent { self.old.spent < 2 ^ 32 - 1 }
-        ensures ok { IfOk result (λ d. as_driven image.now d (shown M.at self.new) ≡ exec_at image.now (shown M.at self.old) origin word) }
+        ensures ok { IfOk result (DoesAs M.at image.now (executed image.now origin word) self.old self.new) }
         ensures spawned { IfOk result (SpawnsNext None) }
         ensures stays { IfOk result (Keeps (shown M.at self.old) (shown M.at self.new)) }
         ensures err { OnErr result (shown M.at self.new ≡ shown M.at self.old) }
@@ -228,7 +225,7 @@ impl<M: Memory> Master<M> {
         requires image { IsImage image.now }
         requires store { stores (meaning word) ≡ true }
         requires spent { self.old.spent < 2 ^ 32 - 1 }
-        ensures ok { IfOk result (λ d. as_driven image.now d (shown M.at self.new) ≡ exec_at image.now (shown M.at self.old) origin word) }
+        ensures ok { IfOk result (DoesAs M.at image.now (executed image.now origin word) self.old self.new) }
         ensures spawned { IfOk result (SpawnsNext None) }
         ensures stays { IfOk result (Keeps (shown M.at self.old) (shown M.at self.new)) }
         ensures err { OnErr result (shown M.at self.new ≡ shown M.at self.old) }
@@ -256,7 +253,7 @@ impl<M: Memory> Master<M> {
         requires image { IsImage image.now }
         requires no_store { stores (meaning word) ≡ false }
         requires spent { self.old.spent < 2 ^ 32 - 1 }
-        ensures ok { IfOk result (λ d. as_driven image.now d (shown M.at self.new) ≡ exec_at image.now (shown M.at self.old) origin word) }
+        ensures ok { IfOk result (DoesAs M.at image.now (executed image.now origin word) self.old self.new) }
         ensures spawned { IfOk result (SpawnsNext None) }
         ensures stays { IfOk result (Keeps (shown M.at self.old) (shown M.at self.new)) }
         ensures err { OnErr result (shown M.at self.new ≡ shown M.at self.old) }
@@ -282,7 +279,7 @@ impl<M: Memory> Master<M> {
     // Whether a call at `origin` is one that a task does.
     fn answers(&self, image: &Image, origin: u32) -> bool
         requires { IsImage image.now }
-        ensures { result ≡ (prints_at image.now origin && is_short_write (value (shown M.at self.now).arch)) }
+        ensures { result ≡ is_answered image.now (shown M.at self.now) origin }
     {
         let regs = &self.arch.regs;
         prints_at(image, origin) && is_short_write(regs[17], regs[10], regs[12])
@@ -293,7 +290,7 @@ impl<M: Memory> Master<M> {
     fn call(&mut self, image: &Image, origin: u32) -> MasterDid
         requires image { IsImage image.now }
         requires spent { self.old.spent < 2 ^ 32 - 1 }
-        ensures ok { as_driven image.now result (shown M.at self.new) ≡ called image.now (shown M.at self.old) origin }
+        ensures ok { DoesAs M.at image.now (λ a. called image.now a origin) self.old self.new result }
         ensures spawned { SpawnsNext None result }
         ensures stays { Keeps (shown M.at self.old) (shown M.at self.new) result }
     {
@@ -316,7 +313,7 @@ impl<M: Memory> Master<M> {
     fn move_to(&mut self, slot: u32) -> MasterDid
         requires { self.old.spent < 2 ^ 32 - 1 }
         ensures did { result ≡ MasterDid.Moved }
-        ensures shown { shown M.at self.new ≡ record (shown M.at self.old) { slot = slot; spent = self.old.spent + 1 } }
+        ensures shown { shown M.at self.new ≡ moved_to slot (shown M.at self.old) }
     {
         self.slot = slot;
         self.spent += 1;

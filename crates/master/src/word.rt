@@ -3,7 +3,7 @@ ghost use Rattle.std.specs.Prelude.{◌≡◌, ℕ, ◌<◌, true, false, cond, 
 ghost use Rattle.rv_word.specs.Field.{rd};
 ghost use Rattle.rv_word.specs.Meaning.{meaning};
 ghost use Rattle.rv_semantics.specs.Effect.{is_store};
-ghost use Rattle.master.specs.Word.{Leaves, placed};
+ghost use Rattle.master.specs.Word.{AreSameBut, Leaves, placed};
 
 use rv_step::{Arch, Flow, Memory, exec};
 use rv_word::{Inst, decode};
@@ -47,7 +47,7 @@ pub(crate) fn perform<M: Memory>(
     ensures pc { arch.new.pc ≡ arch.old.pc }
     ensures leaves { IfOk result (Leaves word (placed M.at origin arch.old) (placed M.at origin arch.new)) }
     ensures memory { is_store (meaning word) ≡ false → M.at arch.new.mem ≡ M.at arch.old.mem }
-    ensures registers { is_store (meaning word) ≡ false → (n : ℕ) → nat_eq (rd word) n ≡ false → slice_index arch.new.regs n ≡ slice_index arch.old.regs n }
+    ensures registers { is_store (meaning word) ≡ false → AreSameBut (rd word) arch.old.regs arch.new.regs }
     ensures err { OnErr result (placed M.at origin arch.new ≡ placed M.at origin arch.old) }
 {
     exec(alloc, arch, origin, word)

@@ -1,5 +1,5 @@
 -- Four bytes, one after another.
-use Rattle.std.proofs.Common.{ℕ, ◌≡◌, ◌+◌, ◌/◌, ◌%◌, ◌^◌, sym, subst, arith}
+use Rattle.std.proofs.Common.{ℕ, ◌≡◌, ◌+◌, ◌/◌, ◌%◌, ◌^◌, subst, arith}
 use Rattle.layers.specs.Layered.{seen_over}
 use Rattle.layers.specs.Lines.{IsPlace}
 use Rattle.layers.proofs.Cells.{word_seen}
@@ -24,10 +24,10 @@ byte_there-second-requires g c =
 
 pub byte_there-third-requires : goal.byte_there-third-requires
 byte_there-third-requires g c =
-    let here : c.args.a / 64 ≡ (c.args.a + 2) % 2 ^ 32 / 64 = omega (arith, c.requires.within, c.ranges.a.fits) in
-    subst (λ (n : ℕ). IsPlace c.byte_there-second.new.self.kept.lines n c.args.place) here (subst (λ (n : ℕ). IsPlace c.byte_there-second.new.self.kept.lines n c.args.place) (sym (let before : c.args.a / 64 ≡ (c.args.a + 1) % 2 ^ 32 / 64 = omega (arith, c.requires.within, c.ranges.a.fits) in before)) c.byte_there-second.ensures.place)
+    let here : (c.args.a + 1) % 2 ^ 32 / 64 ≡ (c.args.a + 2) % 2 ^ 32 / 64 = omega (arith, c.requires.within, c.ranges.a.fits) in
+    subst (λ (n : ℕ). IsPlace c.byte_there-second.new.self.kept.lines n c.args.place) here c.byte_there-second.ensures.place
 
 pub byte_there-last-requires : goal.byte_there-last-requires
 byte_there-last-requires g c =
-    let here : c.args.a / 64 ≡ (c.args.a + 3) % 2 ^ 32 / 64 = omega (arith, c.requires.within, c.ranges.a.fits) in
-    subst (λ (n : ℕ). IsPlace c.byte_there-third.new.self.kept.lines n c.args.place) here (subst (λ (n : ℕ). IsPlace c.byte_there-third.new.self.kept.lines n c.args.place) (sym (let before : c.args.a / 64 ≡ (c.args.a + 2) % 2 ^ 32 / 64 = omega (arith, c.requires.within, c.ranges.a.fits) in before)) c.byte_there-third.ensures.place)
+    let here : (c.args.a + 2) % 2 ^ 32 / 64 ≡ (c.args.a + 3) % 2 ^ 32 / 64 = omega (arith, c.requires.within, c.ranges.a.fits) in
+    subst (λ (n : ℕ). IsPlace c.byte_there-third.new.self.kept.lines n c.args.place) here c.byte_there-third.ensures.place
