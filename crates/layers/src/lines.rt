@@ -130,6 +130,7 @@ impl Lines {
         ensures puts { IsPutAt a v (put_at self.old) (put_at self.new) }
         ensures reads { (q : ℕ) → is_read self.new q ≡ is_read self.old q }
         ensures room { spare self.new.map ≡ spare self.old.map }
+        ensures place { IsPlace self.new (a / 64) place }
     {
         let (_, line) = self.map.pair_mut(place);
         line.write(a % 64, v)

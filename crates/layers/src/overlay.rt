@@ -181,6 +181,7 @@ impl<M: Memory> View for Overlay<M> {
         }
     }
 
+    #[inline(always)]
     fn put(&mut self, _alloc: Global, a: u32, bytes: &[u8]) -> Result<(), AllocError> {
         self.kept.put_all(a, bytes);
         Ok(())

@@ -1,5 +1,5 @@
 //! The lines of a task, with room for more: only making room takes memory.
-ghost use Rattle.std.specs.Prelude.{◌≡◌, ℕ, ◌+◌, ◌<◌, ◌≤◌, ◌/◌, OnOk, max, length};
+ghost use Rattle.std.specs.Prelude.{◌≡◌, ℕ, ◌+◌, ◌<◌, ◌≤◌, ◌/◌, ◌%◌, OnOk, max, length};
 ghost use Rattle.indexmap.specs.IndexMap.{spare};
 ghost use Rattle.layers.specs.Lines.{IsPlace, IsSame, is_read, put_at, ArePutFrom};
 
@@ -99,8 +99,9 @@ impl Record {
         }
     }
 
-    /// Puts bytes from an address on. After the last address comes 0.
-    pub fn put_all(&mut self, a: u32, bytes: &[u8])
+    // Bytes from an address on, each in its line. After the last address comes 0.
+    #[inline(never)]
+    fn put_each(&mut self, a: u32, bytes: &[u8])
         requires { length bytes.now ≤ self.old.writes }
         ensures puts { ArePutFrom a bytes.now (put_at self.old.lines) (put_at self.new.lines) }
         ensures marks { (q : ℕ) → is_read self.new.lines q ≡ is_read self.old.lines q }
@@ -113,5 +114,37 @@ impl Record {
             self.lines.write(place, to, *v);
             to = to.wrapping_add(1);
         }
+    }
+    // Bytes that lie in the line at a place.
+    #[inline(always)]
+    fn put_there(&mut self, place: usize, a: u32, bytes: &[u8])
+        requires place { IsPlace self.old.lines (a / 64) place }
+        requires within { a % 64 + length bytes.now ≤ 64 }
+        ensures puts { ArePutFrom a bytes.now (put_at self.old.lines) (put_at self.new.lines) }
+        ensures marks { (q : ℕ) → is_read self.new.lines q ≡ is_read self.old.lines q }
+        ensures writes { self.new.writes ≡ self.old.writes }
+        ensures reads { self.new.reads ≡ self.old.reads }
+    {
+        let mut to = a;
+        for v in bytes {
+            self.lines.write(place, to, *v);
+            to = to.wrapping_add(1);
+        }
+    }
+
+    /// Puts bytes from an address on, those that lie in one line with one look for it. After the last address comes 0.
+    #[inline(always)]
+    pub fn put_all(&mut self, a: u32, bytes: &[u8])
+        requires { length bytes.now ≤ self.old.writes }
+        ensures puts { ArePutFrom a bytes.now (put_at self.old.lines) (put_at self.new.lines) }
+        ensures marks { (q : ℕ) → is_read self.new.lines q ≡ is_read self.old.lines q }
+        ensures writes { self.old.writes ≤ self.new.writes + length bytes.now }
+        ensures reads { self.new.reads ≡ self.old.reads }
+    {
+        if bytes.is_empty() || (a % 64) as usize + bytes.len() > 64 {
+            return self.put_each(a, bytes);
+        }
+        let place = self.place_to_write(a);
+        self.put_there(place, a, bytes);
     }
 }
