@@ -50,12 +50,18 @@ pub fn turn(slaves: u8, place: u8) -> Event
     requires place { place < slaves + 7 }
     ensures { slice_get (round slaves) place ≡ Some result }
 {
-    match place {
-        0 => Event::Restart,
-        1 => Event::Serial,
-        2..=5 => Event::Master,
-        place if place < slaves + 6 => Event::Slave(place - 6),
-        _ => Event::Commit,
+    if 6 <= place {
+        if place < slaves + 6 {
+            Event::Slave(place - 6)
+        } else {
+            Event::Commit
+        }
+    } else if 2 <= place {
+        Event::Master
+    } else if place == 1 {
+        Event::Serial
+    } else {
+        Event::Restart
     }
 }
 
