@@ -51,7 +51,7 @@ fn task_at<M: Memory>(
 
 impl<M: Memory> Stage<M> {
     ghost use Rattle.speculation.specs.declared.Event.TheVariants as event;
-    ghost use Rattle.engine.specs.Shown.{shown, AreTasksOf, AreTasksOfAny, DoesOn, IsCostlyOn, IsEmptyInSerial, begun, due_at};
+    ghost use Rattle.engine.specs.Shown.{shown, AreTasksOf, AreTasksOfAny, DoesOn, IsCostlyOn, IsEmptyInSerial, at_rest, begun, due_at};
 
     /// Speculation begins where the machine stands, if no step is owed and an anchor is there.
     #[inline(never)]
@@ -102,7 +102,7 @@ impl<M: Memory> Stage<M> {
     }
 
     /// An event of the master, if it runs.
-    #[inline(never)]
+    #[inline(always)]
     pub(crate) fn drive(&mut self, alloc: Global) -> Result<Effect, AllocError>
         requires image { IsImage self.old.image }
         requires tasks { ∥ AreTasksOf self.old.image (shown M.at self.old).tasks ∥₁ }
@@ -118,8 +118,8 @@ impl<M: Memory> Stage<M> {
         match &self.master {
             None => Ok(Effect::Idle),
             Some(master) => match master.next_spawn(&self.image) {
-                Some(number) if room => self.fork(alloc, number),
-                _ => self.advance(alloc, room),
+                Some(number) if room => Ok(self.fork(alloc, number)?),
+                _ => Ok(self.advance(alloc, room)?),
             },
         }
     }
@@ -150,7 +150,19 @@ impl<M: Memory> Stage<M> {
         Ok(Effect::Forked(self.next - 1))
     }
 
+    // The master stops.
+    #[inline(never)]
+    fn halt(&mut self)
+        ensures shown { shown M.at self.new ≡ at_rest (record (shown M.at self.old) { master = None }) }
+        ensures image { self.new.image ≡ self.old.image }
+        ensures slaves { self.new.slaves ≡ self.old.slaves }
+    {
+        self.master = None;
+        self.settle();
+    }
+
     // An event of the master that begins no task.
+    #[inline(always)]
     fn advance(&mut self, alloc: Global, room: bool) -> Result<Effect, AllocError>
         requires image { IsImage self.old.image }
         requires runs { IsSome self.old.master }
@@ -171,8 +183,7 @@ impl<M: Memory> Stage<M> {
             MasterDid::Moved => Ok(Effect::Moved),
             MasterDid::Stalled => Ok(Effect::Stalled),
             MasterDid::Halted(why) => {
-                self.master = None;
-                self.settle();
+                self.halt();
                 Ok(Effect::Halted(why))
             }
             MasterDid::Spawned(_) => unreachable!(),

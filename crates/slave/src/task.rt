@@ -111,7 +111,7 @@ impl<M: Memory> Task<M> {
     /// # Errors
     ///
     /// Want of memory. The task is then as it was.
-    #[inline(never)]
+    #[inline(always)]
     pub fn advance(&mut self, alloc: Global, image: &Image) -> Result<SlaveDid, AllocError>
         requires running { IsNone self.old.ending }
         requires room { self.old.steps < image.now.limit }
