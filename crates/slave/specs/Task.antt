@@ -10,15 +10,17 @@ use Rattle.cells.specs.Seen.{Seen, task_seen, read_cells}
 use Rattle.speculation.specs.declared.Ending.{Ending}
 use Rattle.speculation.specs.declared.Ending.TheVariants.{Reached, Met, Full}
 use Rattle.speculation.specs.World.{World, arrivals}
-use Rattle.speculation.specs.Task.{Task, now, looked, IsTask}
+use Rattle.speculation.specs.Task.{Task, new_task, advance as next_task, now, looked, IsTask}
 use Rattle.rv_semantics.specs.declared.Flow.{Flow}
 use Rattle.rv_semantics.specs.declared.Flow.TheVariants.{Next}
 use Rattle.rv_semantics.specs.Effect.{after}
-use Rattle.rv_semantics.specs.Prints.{arguments, task_output}
+use Rattle.rv_semantics.specs.Values.{arch_of, plain_value}
+use Rattle.rv_semantics.specs.Prints.{is_short_write, arguments, task_output}
 use Rattle.rv_semantics.specs.Calls.{step}
 use Rattle.rv_step.specs.Outcome.{task_step, inst_at}
 use Rattle.memory.specs.declared.Memory.{Ghosts}
-use Rattle.dist_image.specs.Image.{Distilled, anchor_at, prints_at}
+use Rattle.dist_image.specs.declared.image.Anchor.{Anchor}
+use Rattle.dist_image.specs.Image.{Distilled, IsImage, anchor_at, prints_at}
 use Rattle.image_semantics.specs.World.{world}
 use Rattle.layers.specs.Layered.{seen_of, output_of, begun, laid, after_write, written_bytes}
 use Rattle.slave.specs.declared.did.SlaveDid.{SlaveDid}
@@ -43,6 +45,10 @@ shown at t = record { number = t.number; seen = seen_of at t.view; output = outp
 -- a task that has only begun, where the cells have these values
 abbrev pub fresh : ℕ → ℕ → (Cell → ℕ) → Shown
 fresh number count base = record { number = number; seen = begun base; output = []; pc = base Pc; count = count; left = count; steps = 0; ending = None }
+
+-- a task that has only begun at this anchor, with these registers and this memory
+abbrev pub fresh_at : ℕ → Anchor → List ℕ → (ℕ → ℕ) → Shown
+fresh_at number anchor regs bytes = fresh number anchor.count (plain_value anchor.pc regs bytes)
 
 -- what an event did, by the ending after it
 abbrev pub did_of : Option Ending → SlaveDid
@@ -74,6 +80,10 @@ performed prints k = record k {
   output = k.output ++ task_output prints (inst_at k.pc k.seen.value) k.pc k.seen.value;
 }
 
+-- the same where the image says at which pcs a task may print
+abbrev pub performed_in : Distilled → Shown → Shown
+performed_in image k = performed (prints_at image) k
+
 -- where it goes on after that, if it does
 abbrev pub goes_to : (ℕ → Bool) → Shown → Option ℕ
 goes_to prints k = next_of (task_step prints k.pc k.seen).flow
@@ -83,10 +93,18 @@ abbrev pub called : Bool → Shown → Shown
 called false k = record k { seen = read_cells arguments k.seen }
 called true k = record k { seen = after_write (read_cells arguments k.seen); output = k.output ++ written_bytes k.seen }
 
+-- the same of the call that stands there, which is done if it is a short write
+abbrev pub called_there : Shown → Shown
+called_there k = called (is_short_write k.seen.value) k
+
 -- the pc behind a call that a task does
 abbrev pub goes_behind : Bool → ℕ → Option ℕ
 goes_behind false pc = None
 goes_behind true pc = Some (after pc)
+
+-- where a task goes on behind the call at its pc, if that is a short write
+abbrev pub goes_on_behind : Shown → Option ℕ
+goes_on_behind k = goes_behind (is_short_write k.seen.value) k.pc
 
 -- one event of a running task
 unfoldable pub advanced : Distilled → Shown → Shown
@@ -95,6 +113,10 @@ advanced image k = went image (performed (prints_at image) k) (goes_to (prints_a
 -- the task of the definition: its checkpoint is what the view began with
 abbrev pub modelled : Shown → Task
 modelled k = record { number = k.number; base = from_cells k.seen.base; count = k.count; steps = k.steps; ending = k.ending }
+
+-- it is the definition's task that begins at this anchor
+abbrev pub IsModelAt : ℕ → Anchor → List ℕ → (ℕ → ℕ) → Shown → Type 0
+IsModelAt number anchor regs bytes k = modelled k ≡ new_task number (arch_of anchor.pc regs bytes) anchor.count
 
 -- a task of a world: it shows what its steps from its checkpoint give
 pub record Shows (w : World) (k : Shown) : Type 0 where
@@ -109,6 +131,19 @@ pub record Shows (w : World) (k : Shown) : Type 0 where
 abbrev pub IsTaskOf : Distilled → Shown → Type 0
 IsTaskOf image k = (start : State) (slaves : ℕ) → Shows (world start image slaves) k
 
+-- a task of any image
+abbrev pub IsTaskOfAny : Shown → Type 0
+IsTaskOfAny k = (image : Distilled) → IsImage image → IsTaskOf image k
+
+-- what was a task of the image still is
+abbrev pub StaysTaskOf : Distilled → Shown → Shown → Type 0
+StaysTaskOf image old new = IsTaskOf image old → IsTaskOf image new
+
+-- what was a task of the image has had the definition's event
+abbrev pub HadEvent : Distilled → Shown → Shown → Type 0
+HadEvent image old new =
+    IsTaskOf image old → (start : State) (slaves : ℕ) → modelled new ≡ next_task (world start image slaves) (modelled old)
+
 -- the state holds the recorded values
 abbrev pub Agrees : Seen → State → Type 0
 Agrees seen s = (x : Cell) (v : ℕ) → seen.recorded x ≡ Some v → value s.arch x ≡ v
@@ -119,3 +154,7 @@ abbrev pub FollowsRun : Shown → Type 0
 FollowsRun k =
     (s : State) → is_over s ≡ false → Agrees k.seen s
     → iterate step s k.steps ≡ record { arch = from_cells (laid k.pc k.seen (value s.arch)); env = printed s.env k.output }
+
+-- what was a task of the image now follows the run
+abbrev pub GoesAlong : Distilled → Shown → Shown → Type 0
+GoesAlong image old new = IsTaskOf image old → FollowsRun new

@@ -27,15 +27,12 @@ pub struct Task<M: Memory> {
 }
 
 impl<M: Memory> Task<M> {
-    ghost use Rattle.std.specs.Prelude.{◌<◌, ℕ, Bool, true, false, IsNone, IsOk, IfSome, IfOk, OnOk, OnErr};
-    ghost use Rattle.cells.specs.Run.{State};
-    ghost use Rattle.speculation.specs.Task.{new_task, advance as next_task};
-    ghost use Rattle.rv_semantics.specs.Values.{arch_of, plain_value};
-    ghost use Rattle.rv_semantics.specs.Prints.{is_short_write};
+    ghost use Rattle.std.specs.Prelude.{◌<◌, ℕ, Bool, true, IsNone, IsOk, IfSome, IfOk, OnOk, OnErr};
     ghost use Rattle.layers.specs.Layered.{HasRoom};
-    ghost use Rattle.dist_image.specs.Image.{Distilled, IsImage, IsAnchor, prints_at};
-    ghost use Rattle.image_semantics.specs.World.{world};
-    ghost use Rattle.slave.specs.Task.{shown, fresh, did_of, went, performed, goes_to, called, goes_behind, advanced, modelled, IsTaskOf, FollowsRun};
+    ghost use Rattle.dist_image.specs.Image.{IsImage, IsAnchor, prints_at};
+    ghost use Rattle.slave.specs.Task.{shown, fresh_at, did_of, went, advanced, performed, performed_in};
+    ghost use Rattle.slave.specs.Task.{goes_to, called_there, goes_on_behind};
+    ghost use Rattle.slave.specs.Task.{IsModelAt, IsTaskOfAny, StaysTaskOf, HadEvent, GoesAlong};
 
     /// A task of this number at an anchor of an image, with the registers and the memory there. Its
     /// view records the anchor's pc.
@@ -51,9 +48,9 @@ impl<M: Memory> Task<M> {
         mem: M,
     ) -> Result<Task<M>, AllocError>
         requires { IsAnchor 1_048_576 anchor.now }
-        ensures shown { IfOk result (λ task. shown M.at task ≡ fresh number anchor.now.count (plain_value anchor.now.pc regs (M.at mem))) }
-        ensures model { IfOk result (λ task. modelled (shown M.at task) ≡ new_task number (arch_of anchor.now.pc regs (M.at mem)) anchor.now.count) }
-        ensures task { IfOk result (λ task. (image : Distilled) → IsImage image → IsTaskOf image (shown M.at task)) }
+        ensures shown { IfOk result (λ task. shown M.at task ≡ fresh_at number anchor.now regs (M.at mem)) }
+        ensures model { IfOk result (λ task. IsModelAt number anchor.now regs (M.at mem) (shown M.at task)) }
+        ensures task { IfOk result (λ task. IsTaskOfAny (shown M.at task)) }
     {
         Ok(Task {
             number,
@@ -123,9 +120,9 @@ impl<M: Memory> Task<M> {
         ensures ok { OnOk result (shown M.at self.new ≡ advanced image.now (shown M.at self.old)) }
         ensures did { IfOk result (λ d. d ≡ did_of self.new.ending) }
         ensures err { OnErr result (shown M.at self.new ≡ shown M.at self.old) }
-        ensures task { OnOk result (IsTaskOf image.now (shown M.at self.old) → IsTaskOf image.now (shown M.at self.new)) }
-        ensures model { OnOk result (IsTaskOf image.now (shown M.at self.old) → (start : State) (slaves : ℕ) → modelled (shown M.at self.new) ≡ next_task (world start image.now slaves) (modelled (shown M.at self.old))) }
-        ensures law { OnOk result (IsTaskOf image.now (shown M.at self.old) → FollowsRun (shown M.at self.new)) }
+        ensures task { OnOk result (StaysTaskOf image.now (shown M.at self.old) (shown M.at self.new)) }
+        ensures model { OnOk result (HadEvent image.now (shown M.at self.old) (shown M.at self.new)) }
+        ensures law { OnOk result (GoesAlong image.now (shown M.at self.old) (shown M.at self.new)) }
     {
         let next = self.perform(alloc, image)?;
         self.go_on(image, next);
@@ -138,7 +135,7 @@ impl<M: Memory> Task<M> {
         requires { IsImage image.now }
         ensures next { IfOk result (λ next. next ≡ goes_to (prints_at image.now) (shown M.at self.old)) }
         ensures aligned { IfOk result (λ next. IfSome next (λ to. to % 4 ≡ 0)) }
-        ensures ok { OnOk result (shown M.at self.new ≡ performed (prints_at image.now) (shown M.at self.old)) }
+        ensures ok { OnOk result (shown M.at self.new ≡ performed_in image.now (shown M.at self.old)) }
         ensures err { OnErr result (shown M.at self.new ≡ shown M.at self.old) }
     {
         if may_print(image, self.pc) {
@@ -152,9 +149,11 @@ impl<M: Memory> Task<M> {
     // The same where the task may print: a short write doesn't stop it.
     #[inline(never)]
     fn perform_or_print(&mut self, alloc: Global) -> Result<Option<u32>, AllocError>
-        ensures next { (prints : ℕ → Bool) → prints self.old.pc ≡ true → IfOk result (λ next. next ≡ goes_to prints (shown M.at self.old)) }
+        ensures next { (prints : ℕ → Bool) → prints self.old.pc ≡ true
+            → IfOk result (λ next. next ≡ goes_to prints (shown M.at self.old)) }
         ensures aligned { IfOk result (λ next. IfSome next (λ to. to % 4 ≡ 0)) }
-        ensures ok { (prints : ℕ → Bool) → prints self.old.pc ≡ true → OnOk result (shown M.at self.new ≡ performed prints (shown M.at self.old)) }
+        ensures ok { (prints : ℕ → Bool) → prints self.old.pc ≡ true
+            → OnOk result (shown M.at self.new ≡ performed prints (shown M.at self.old)) }
         ensures err { OnErr result (shown M.at self.new ≡ shown M.at self.old) }
     {
         self.view.ready_call()?;
@@ -172,9 +171,9 @@ impl<M: Memory> Task<M> {
     fn call(&mut self) -> Result<Option<u32>, AllocError>
         requires { HasRoom self.old.view 256 1 256 }
         ensures sure { IsOk result }
-        ensures next { IfOk result (λ next. next ≡ goes_behind (is_short_write (shown M.at self.old).seen.value) self.old.pc) }
+        ensures next { IfOk result (λ next. next ≡ goes_on_behind (shown M.at self.old)) }
         ensures aligned { IfOk result (λ next. IfSome next (λ to. to % 4 ≡ 0)) }
-        ensures ok { OnOk result (shown M.at self.new ≡ called (is_short_write (shown M.at self.old).seen.value) (shown M.at self.old)) }
+        ensures ok { OnOk result (shown M.at self.new ≡ called_there (shown M.at self.old)) }
     {
         let [descriptor, _, count, number] = self.view.call_args()?;
         if !is_short_write(number, descriptor, count) {
@@ -214,7 +213,7 @@ fn may_print(image: &Image, pc: u32) -> bool
     !image.writes.is_empty() && prints_at(image, pc)
 }
 
-// Whether an anchor stands at this pc, and how many do below it. The number of the last look is tried before it is searched for.
+// Whether an anchor stands at this pc, and how many do below it. The number of the last look is tried first.
 #[inline(always)]
 fn look(image: &Image, below: usize, pc: u32) -> (bool, usize)
     requires { IsImage image.now }
