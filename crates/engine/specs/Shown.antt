@@ -1,5 +1,5 @@
 -- What contracts see of the engine's stage, and what an event does to it.
-use Rattle.std.specs.Prelude.{◌≡◌, ℕ, ◌+◌, ◌-◌, ◌%◌, Bool, true, cond, nat_le, List, [], ◌∷◌, length, map, Option, Some, None}
+use Rattle.std.specs.Prelude.{◌≡◌, ℕ, ◌+◌, ◌-◌, ◌%◌, ◌^◌, ◌<◌, position, Bool, true, cond, nat_le, List, [], ◌∷◌, length, map, Option, Some, None}
 use Rattle.std.specs.Option.{option_map}
 use Rattle.cells.specs.Cells.{value}
 use Rattle.cells.specs.Run.{State, is_over}
@@ -12,12 +12,14 @@ use Rattle.speculation.specs.declared.Event.{Event}
 use Rattle.speculation.specs.declared.Mode.{Mode}
 use Rattle.speculation.specs.declared.Mode.TheVariants.{Serial, Speculating}
 use Rattle.speculation.specs.World.{Master}
-use Rattle.speculation.specs.Task.{Task, is_run_by}
+use Rattle.speculation.specs.Task.{Task, is_run_by, steps_of}
+use Rattle.speculation.specs.Kept.{Holds}
 use Rattle.speculation.specs.Engine.{Model, going_on}
 use Rattle.memory.specs.declared.Memory.{Ghosts}
 use Rattle.dist_image.specs.declared.image.Anchor.{Anchor}
-use Rattle.dist_image.specs.Image.{Distilled}
+use Rattle.dist_image.specs.Image.{Distilled, IsImage}
 use Rattle.image_semantics.specs.World.{world, begin_behind}
+use Rattle.seq_machine.specs.declared.machine.Machine.{Machine}
 use Rattle.seq_machine.specs.States.{state_of}
 use Rattle.slave.specs.Task.{Shown as TaskShown, shown as task_shown, fresh, modelled as task_modelled, IsTaskOf}
 use Rattle.slave.specs.declared.task.Task.{Task as CodeTask}
@@ -69,6 +71,10 @@ abbrev pub AreTasksOf : Distilled → List TaskShown → Type 0
 AreTasksOf image [] = Unit {0}
 AreTasksOf image (k ∷ ks) = IsTaskOf image k × AreTasksOf image ks
 
+-- each task is one of any image
+abbrev pub AreTasksOfAny : List TaskShown → Type 0
+AreTasksOfAny ks = (image : Distilled) → IsImage image → AreTasksOf image ks
+
 -- the master and all tasks given up
 abbrev pub given_up : Shown → Shown
 given_up s = record s { mode = Serial true; master = None; tasks = [] }
@@ -117,6 +123,32 @@ Happens image slaves e old effect new = (start : State) (c : Counts) →
 abbrev pub IsCostly : Distilled → ℕ → Event → Shown → Type 0
 IsCostly image slaves e s = (start : State) (c : Counts) → MayTake (going_on (world start image slaves) (modelled s c) e).0
 
+-- ---- the same of a stage in the code
+
+-- the event takes the old stage to the new one with this effect, as the definition's does
+abbrev pub DoesOn : {M : Type 0} {d : Ghosts M} → (M → ℕ → ℕ) → Event → Stage M d → Effect → Stage M d → Type 0
+DoesOn at e old effect new = Does old.image old.slaves e (shown at old) effect (shown at new)
+
+-- the same for a machine that may have ended
+abbrev pub HappensOn : {M : Type 0} {d : Ghosts M} → (M → ℕ → ℕ) → Event → Stage M d → Effect → Stage M d → Type 0
+HappensOn at e old effect new = Happens old.image old.slaves e (shown at old) effect (shown at new)
+
+-- the event is none of those that take no memory on this stage
+abbrev pub IsCostlyOn : {M : Type 0} {d : Ghosts M} → (M → ℕ → ℕ) → Event → Stage M d → Type 0
+IsCostlyOn at e s = IsCostly s.image s.slaves e (shown at s)
+
+-- no task lives while the machine is serial
+abbrev pub IsEmptyInSerial : {M : Type 0} {d : Ghosts M} → Stage M d → Type 0
+IsEmptyInSerial s = (debt : Bool) → s.mode ≡ Serial debt → length s.tasks.items ≡ 0
+
+-- the position has room for the steps of all live tasks
+abbrev pub HasRoomForSteps : {M : Type 0} {d : Ghosts M} → (M → ℕ → ℕ) → Stage M d → Type 0
+HasRoomForSteps at s = s.machine.position + steps_of (tasks_modelled (shown at s).tasks) < 2 ^ 64 - 1
+
+-- what every event keeps is so of the stage and the counts, where the machine began as `start`
+abbrev pub Keeps : {M : Type 0} {d : Ghosts M} → (M → ℕ → ℕ) → Machine M d → Stage M d → Counts → Type 0
+Keeps at start s c = Holds (world (state_of at start) s.image s.slaves) (modelled (shown at s) c)
+
 -- nothing is speculated on
 abbrev pub IsSerial : Mode → Type 0
 IsSerial (Serial debt) = Unit {0}
@@ -125,6 +157,10 @@ IsSerial Speculating = ⊥
 -- a slave runs the task whose number is its own modulo the number of slaves
 abbrev pub is_shown_run_by : (slaves slave : ℕ) → TaskShown → Bool
 is_shown_run_by slaves slave k = is_run_by slaves slave (task_modelled k)
+
+-- the place of the first task that runs on this slave, if one does
+abbrev pub runner_on : {M : Type 0} {d : Ghosts M} → (M → ℕ → ℕ) → Stage M d → ℕ → Option ℕ
+runner_on at s slave = position (λ t. is_shown_run_by s.slaves slave (task_shown at t)) s.tasks.items
 
 -- on s slaves, how far behind the oldest task, whose number is f, the task of slave j stands
 abbrev pub place_of : ℕ → ℕ → ℕ → ℕ

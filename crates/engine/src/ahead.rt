@@ -1,9 +1,8 @@
 //! Where speculation begins, and the master's events.
 ghost use Rattle.std.specs.Prelude.{◌≡◌, ℕ, ◌^◌, ◌-◌, ◌<◌, Bool, true, length, IfOk, OnOk, OnErr, IfSome, IsSome, Some, nat_lt, slice_get};
-ghost use Rattle.dist_image.specs.Image.{Distilled, IsImage, IsAnchor};
+ghost use Rattle.dist_image.specs.Image.{IsImage, IsAnchor};
 ghost use Rattle.image_semantics.specs.World.{anchor_of as anchor_there};
-ghost use Rattle.rv_semantics.specs.Values.{plain_value};
-ghost use Rattle.slave.specs.Task.{IsTaskOf, fresh, shown as task_shown};
+ghost use Rattle.slave.specs.Task.{IsTaskOfAny, fresh_at, shown as task_shown};
 
 use crate::stage::Stage;
 use dist_image::{Anchor, Image, anchor_at};
@@ -42,8 +41,9 @@ fn task_at<M: Memory>(
     mem: &M,
 ) -> Result<Task<M>, AllocError>
     requires { IsAnchor 1_048_576 anchor.now }
-    ensures shown { IfOk result (λ task. task_shown M.at task ≡ fresh number anchor.now.count (plain_value anchor.now.pc regs.now (M.at mem.now))) }
-    ensures task { IfOk result (λ task. (image : Distilled) → IsImage image → IsTaskOf image (task_shown M.at task)) }
+    ensures shown { IfOk result (λ task. task_shown M.at task
+        ≡ fresh_at number anchor.now regs.now (M.at mem.now)) }
+    ensures task { IfOk result (λ task. IsTaskOfAny (task_shown M.at task)) }
 {
     let mem = mem.snapshot(alloc)?;
     Task::begin(alloc, number, anchor, *regs, mem)
@@ -51,19 +51,19 @@ fn task_at<M: Memory>(
 
 impl<M: Memory> Stage<M> {
     ghost use Rattle.speculation.specs.declared.Event.TheVariants as event;
-    ghost use Rattle.engine.specs.Shown.{shown, AreTasksOf, Does, IsCostly, begun, due_at};
+    ghost use Rattle.engine.specs.Shown.{shown, AreTasksOf, AreTasksOfAny, DoesOn, IsCostlyOn, IsEmptyInSerial, begun, due_at};
 
     /// Speculation begins where the machine stands, if no step is owed and an anchor is there.
     #[inline(never)]
     pub(crate) fn restart(&mut self, alloc: Global) -> Result<Effect, AllocError>
         requires image { IsImage self.old.image }
         requires tasks { ∥ AreTasksOf self.old.image (shown M.at self.old).tasks ∥₁ }
-        requires empty { (debt : Bool) → self.old.mode ≡ Mode.Serial debt → length self.old.tasks.items ≡ 0 }
+        requires empty { IsEmptyInSerial self.old }
         requires next { self.old.next < 2 ^ 64 - 1 }
-        ensures ok { IfOk result (λ effect. Does self.old.image self.old.slaves event.Restart (shown M.at self.old) effect (shown M.at self.new)) }
+        ensures ok { IfOk result (λ effect. DoesOn M.at event.Restart self.old effect self.new) }
         ensures tasks { OnOk result (∥ AreTasksOf self.old.image (shown M.at self.new).tasks ∥₁) }
         ensures err { OnErr result (shown M.at self.new ≡ shown M.at self.old) }
-        ensures sure { OnErr result (IsCostly self.old.image self.old.slaves event.Restart (shown M.at self.old)) }
+        ensures sure { OnErr result (IsCostlyOn M.at event.Restart self.old) }
         ensures image { self.new.image ≡ self.old.image }
         ensures slaves { self.new.slaves ≡ self.old.slaves }
     {
@@ -86,7 +86,7 @@ impl<M: Memory> Stage<M> {
         requires next { self.old.next < 2 ^ 64 - 1 }
         ensures effect { IfOk result (λ effect. effect ≡ Effect.Started self.old.machine.arch.pc) }
         ensures ok { OnOk result (shown M.at self.new ≡ begun anchor.now (shown M.at self.old)) }
-        ensures tasks { OnOk result ((image : Distilled) → IsImage image → AreTasksOf image (shown M.at self.new).tasks) }
+        ensures tasks { OnOk result (AreTasksOfAny (shown M.at self.new).tasks) }
         ensures err { OnErr result (shown M.at self.new ≡ shown M.at self.old) }
         ensures image { self.new.image ≡ self.old.image }
         ensures slaves { self.new.slaves ≡ self.old.slaves }
@@ -107,10 +107,10 @@ impl<M: Memory> Stage<M> {
         requires image { IsImage self.old.image }
         requires tasks { ∥ AreTasksOf self.old.image (shown M.at self.old).tasks ∥₁ }
         requires next { self.old.next < 2 ^ 64 - 1 }
-        ensures ok { IfOk result (λ effect. Does self.old.image self.old.slaves event.Master (shown M.at self.old) effect (shown M.at self.new)) }
+        ensures ok { IfOk result (λ effect. DoesOn M.at event.Master self.old effect self.new) }
         ensures tasks { OnOk result (∥ AreTasksOf self.old.image (shown M.at self.new).tasks ∥₁) }
         ensures err { OnErr result (shown M.at self.new ≡ shown M.at self.old) }
-        ensures sure { OnErr result (IsCostly self.old.image self.old.slaves event.Master (shown M.at self.old)) }
+        ensures sure { OnErr result (IsCostlyOn M.at event.Master self.old) }
         ensures image { self.new.image ≡ self.old.image }
         ensures slaves { self.new.slaves ≡ self.old.slaves }
     {
@@ -132,10 +132,10 @@ impl<M: Memory> Stage<M> {
         requires next { self.old.next < 2 ^ 64 - 1 }
         requires due { due_at self.old.image (shown M.at self.old).master ≡ Some number }
         requires room { nat_lt (length self.old.tasks.items) self.old.slaves ≡ true }
-        ensures ok { IfOk result (λ effect. Does self.old.image self.old.slaves event.Master (shown M.at self.old) effect (shown M.at self.new)) }
+        ensures ok { IfOk result (λ effect. DoesOn M.at event.Master self.old effect self.new) }
         ensures tasks { OnOk result (∥ AreTasksOf self.old.image (shown M.at self.new).tasks ∥₁) }
         ensures err { OnErr result (shown M.at self.new ≡ shown M.at self.old) }
-        ensures sure { OnErr result (IsCostly self.old.image self.old.slaves event.Master (shown M.at self.old)) }
+        ensures sure { OnErr result (IsCostlyOn M.at event.Master self.old) }
         ensures image { self.new.image ≡ self.old.image }
         ensures slaves { self.new.slaves ≡ self.old.slaves }
     {
@@ -157,10 +157,10 @@ impl<M: Memory> Stage<M> {
         requires tasks { ∥ AreTasksOf self.old.image (shown M.at self.old).tasks ∥₁ }
         requires room { room ≡ nat_lt (length self.old.tasks.items) self.old.slaves }
         requires due { room ≡ true → due_at self.old.image (shown M.at self.old).master ≡ None }
-        ensures ok { IfOk result (λ effect. Does self.old.image self.old.slaves event.Master (shown M.at self.old) effect (shown M.at self.new)) }
+        ensures ok { IfOk result (λ effect. DoesOn M.at event.Master self.old effect self.new) }
         ensures tasks { OnOk result (∥ AreTasksOf self.old.image (shown M.at self.new).tasks ∥₁) }
         ensures err { OnErr result (shown M.at self.new ≡ shown M.at self.old) }
-        ensures sure { OnErr result (IsCostly self.old.image self.old.slaves event.Master (shown M.at self.old)) }
+        ensures sure { OnErr result (IsCostlyOn M.at event.Master self.old) }
         ensures image { self.new.image ≡ self.old.image }
         ensures slaves { self.new.slaves ≡ self.old.slaves }
     {

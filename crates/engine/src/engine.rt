@@ -1,10 +1,8 @@
 //! The engine, and its events.
 ghost use Rattle.std.specs.Prelude.{◌≡◌, ◌≤◌, IfOk};
-ghost use Rattle.speculation.specs.Kept.{Holds};
 ghost use Rattle.dist_image.specs.Image.{IsImage};
-ghost use Rattle.image_semantics.specs.World.{world};
 ghost use Rattle.seq_machine.specs.States.{state_of};
-ghost use Rattle.engine.specs.Shown.{shown, modelled, AreTasksOf};
+ghost use Rattle.engine.specs.Shown.{shown, AreTasksOf, Keeps};
 ghost use Rattle.engine.specs.Images.{IsImage-prop};
 
 use crate::counting::count;
@@ -30,7 +28,7 @@ pub struct Engine<M: Memory> {
     pub ghost some: { 1 ≤ stage.slaves },
     pub ghost few: { stage.slaves ≤ 64 },
     pub ghost tasks: { ∥ AreTasksOf stage.image (shown M.at stage).tasks ∥₁ },
-    pub ghost holds: { ∥ Holds (world (state_of M.at start) stage.image stage.slaves) (modelled (shown M.at stage) counts) ∥₁ },
+    pub ghost holds: { ∥ Keeps M.at start stage counts ∥₁ },
 }
 
 // A machine in the same state, which stands apart.
@@ -55,13 +53,13 @@ fn copy_of<M: Memory>(alloc: Global, machine: &Machine<M>) -> Result<Machine<M>,
 }
 
 impl<M: Memory> Engine<M> {
-    ghost use Rattle.std.specs.Prelude.{ℕ, ◌+◌, ◌-◌, ◌^◌, ◌<◌, ◌||◌, Bool, true, false, length, OnErr, IsNone};
+    ghost use Rattle.std.specs.Prelude.{◌+◌, ◌-◌, ◌^◌, ◌<◌, false, length, OnErr, IsNone};
     ghost use Rattle.cells.specs.Run.{is_over};
     ghost use Rattle.speculation.specs.World.{seq};
-    ghost use Rattle.speculation.specs.Engine.{happens, fresh};
-    ghost use Rattle.speculation_laws.specs.Told.{Tells, waits, is_idle};
-    ghost use Rattle.engine.specs.Shown.{MayTake, IsSerial};
+    ghost use Rattle.speculation.specs.Engine.{fresh};
+    ghost use Rattle.engine.specs.Shown.{IsSerial};
     ghost use Rattle.engine.specs.Whole.{start_of, image_of, slaves_of, world_of, model_of};
+    ghost use Rattle.engine.specs.Whole.{IsEvent, MayTakeOn, IsSequential, AreStepsCounted, IsTold, IsRightlyIdle, OwesStep};
 
     /// An engine that has had no event, over a machine at the start of a run. It runs in the world
     /// of this image, with 1 to 64 slaves.
@@ -118,26 +116,26 @@ impl<M: Memory> Engine<M> {
     pub fn event(&mut self, alloc: Global, e: Event) -> Result<Effect, AllocError>
         requires { (model_of M.at self.old).counts.events < 2 ^ 64 - 1 }
         // The effect and the model are those of the definition.
-        ensures ok { IfOk result (λ effect. (effect, model_of M.at self.new) ≡ happens (world_of M.at self.old) (model_of M.at self.old) e) }
+        ensures ok { IfOk result (λ effect. IsEvent M.at e self.old effect self.new) }
         ensures err { OnErr result (model_of M.at self.new ≡ model_of M.at self.old) }
-        ensures sure { OnErr result (MayTake (happens (world_of M.at self.old) (model_of M.at self.old) e).0) }
+        ensures sure { OnErr result (MayTakeOn M.at e self.old) }
         // The world stays.
         ensures start { start_of M.at self.new ≡ start_of M.at self.old }
         ensures image { image_of self.new ≡ image_of self.old }
         ensures slaves { slaves_of self.new ≡ slaves_of self.old }
         // What is committed is the sequential run, and never falls back.
-        ensures sequential { (model_of M.at self.new).committed ≡ seq (world_of M.at self.new) (model_of M.at self.new).position }
-        ensures position { let c = (model_of M.at self.new).counts in (model_of M.at self.new).position ≡ c.by_tasks + c.serial }
+        ensures sequential { IsSequential M.at self.new }
+        ensures position { AreStepsCounted (model_of M.at self.new) }
         ensures rises { (model_of M.at self.old).position ≤ (model_of M.at self.new).position }
         // What is told is so; and an event is idle exactly where the machine has ended or it finds nothing to do.
-        ensures told { IfOk result (λ effect. Tells (world_of M.at self.old) (model_of M.at self.old) e effect (model_of M.at self.new)) }
-        ensures idle { IfOk result (λ effect. is_idle effect ≡ (is_over (model_of M.at self.old).committed || waits (world_of M.at self.old) (model_of M.at self.old) e)) }
+        ensures told { IfOk result (λ effect. IsTold M.at e self.old effect self.new) }
+        ensures idle { IfOk result (λ effect. IsRightlyIdle M.at e self.old effect) }
         // A squash costs a step but for the last one, and no position is gained without an event.
         ensures squashed { let c = (model_of M.at self.new).counts in c.squashed ≤ c.serial + 1 }
         ensures serial { (model_of M.at self.new).counts.serial ≤ (model_of M.at self.new).position }
         ensures events { (model_of M.at self.new).position ≤ (model_of M.at self.new).counts.events }
         // Where speculation is given up a step is owed.
-        ensures owed { (model_of M.at self.old).mode ≡ Mode.Speculating → (debt : Bool) → (model_of M.at self.new).mode ≡ Mode.Serial debt → debt ≡ true }
+        ensures owed { OwesStep (model_of M.at self.old) (model_of M.at self.new) }
     {
         if self.stage.rests(e) {
             self.counts.events += 1;
@@ -161,7 +159,7 @@ impl<M: Memory> Engine<M> {
         ensures model { model_of M.at self.new ≡ model_of M.at self.old }
         ensures start { start_of M.at self.new ≡ start_of M.at self.old }
         ensures slaves { slaves_of self.new ≡ slaves_of self.old }
-        ensures sequential { (model_of M.at self.new).committed ≡ seq (world_of M.at self.new) (model_of M.at self.new).position }
+        ensures sequential { IsSequential M.at self.new }
     {
         self.stage.image = image;
     }

@@ -1,5 +1,5 @@
 //! The machine's own step, and the tasks' steps and commits.
-ghost use Rattle.std.specs.Prelude.{◌≡◌, ◌≢◌, ℕ, ◌+◌, ◌-◌, ◌^◌, ◌<◌, ◌≤◌, Bool, false, Option, length, position, IfOk, OnOk, OnErr, IsNone, Some, slice_index_or};
+ghost use Rattle.std.specs.Prelude.{◌≡◌, ◌≢◌, ℕ, ◌+◌, ◌-◌, ◌^◌, ◌<◌, ◌≤◌, false, Option, length, IfOk, OnOk, OnErr, IsNone, Some, slice_index_or};
 ghost use Rattle.cells.specs.declared.Cell.TheVariants.{Reg};
 ghost use Rattle.cells.specs.Cells.{value, from_cells};
 ghost use Rattle.cells.specs.Run.{printed};
@@ -7,7 +7,7 @@ ghost use Rattle.speculation.specs.Engine.{told_end, told_task, dropped_by};
 ghost use Rattle.layers.specs.Layered.{laid};
 ghost use Rattle.seq_machine.specs.States.{state_of, did_of as step_told};
 ghost use Rattle.slave.specs.Task.{shown as task_shown, did_of as task_told};
-ghost use Rattle.engine.specs.Shown.{is_shown_run_by, place_of};
+ghost use Rattle.engine.specs.Shown.{place_of};
 
 use crate::stage::Stage;
 use cells::End;
@@ -74,20 +74,19 @@ fn lay<M: Memory>(alloc: Global, task: &Task<M>, machine: &mut Machine<M>) -> Re
 
 impl<M: Memory> Stage<M> {
     ghost use Rattle.speculation.specs.declared.Event.TheVariants as event;
-    ghost use Rattle.speculation.specs.Task.{steps_of};
     ghost use Rattle.speculation.specs.Kept.{AreNumbered};
     ghost use Rattle.dist_image.specs.Image.{IsImage};
-    ghost use Rattle.engine.specs.Shown.{shown, tasks_modelled, AreTasksOf, Does, IsCostly, retired, dropped_of};
+    ghost use Rattle.engine.specs.Shown.{shown, tasks_modelled, AreTasksOf, DoesOn, IsCostlyOn, HasRoomForSteps, runner_on, retired, dropped_of};
 
     /// A step of the machine, unless tasks or the master run ahead.
     #[inline(never)]
     pub(crate) fn step(&mut self, alloc: Global) -> Result<Effect, AllocError>
         requires running { IsNone self.old.machine.end }
         requires room { self.old.machine.position < 2 ^ 64 - 1 }
-        ensures ok { IfOk result (λ effect. Does self.old.image self.old.slaves event.Serial (shown M.at self.old) effect (shown M.at self.new)) }
+        ensures ok { IfOk result (λ effect. DoesOn M.at event.Serial self.old effect self.new) }
         ensures tasks { (shown M.at self.new).tasks ≡ (shown M.at self.old).tasks }
         ensures err { OnErr result (shown M.at self.new ≡ shown M.at self.old) }
-        ensures sure { OnErr result (IsCostly self.old.image self.old.slaves event.Serial (shown M.at self.old)) }
+        ensures sure { OnErr result (IsCostlyOn M.at event.Serial self.old) }
         ensures image { self.new.image ≡ self.old.image }
         ensures slaves { self.new.slaves ≡ self.old.slaves }
     {
@@ -107,7 +106,7 @@ impl<M: Memory> Stage<M> {
     pub(crate) fn runner(&self, slave: u8) -> Option<usize>
         requires few { length self.now.tasks.items ≤ self.now.slaves }
         requires numbers { AreNumbered self.now.next (tasks_modelled (shown M.at self.now).tasks) }
-        ensures { result ≡ position (λ t. is_shown_run_by self.now.slaves slave (task_shown M.at t)) self.now.tasks.items }
+        ensures { result ≡ runner_on M.at self.now slave }
     {
         if self.slaves <= slave {
             return None;
@@ -131,10 +130,10 @@ impl<M: Memory> Stage<M> {
         requires few { length self.old.tasks.items ≤ self.old.slaves }
         requires numbers { AreNumbered self.old.next (tasks_modelled (shown M.at self.old).tasks) }
         requires tasks { ∥ AreTasksOf self.old.image (shown M.at self.old).tasks ∥₁ }
-        ensures ok { IfOk result (λ effect. Does self.old.image self.old.slaves (event.Slave slave) (shown M.at self.old) effect (shown M.at self.new)) }
+        ensures ok { IfOk result (λ effect. DoesOn M.at (event.Slave slave) self.old effect self.new) }
         ensures tasks { OnOk result (∥ AreTasksOf self.old.image (shown M.at self.new).tasks ∥₁) }
         ensures err { OnErr result (shown M.at self.new ≡ shown M.at self.old) }
-        ensures sure { OnErr result (IsCostly self.old.image self.old.slaves (event.Slave slave) (shown M.at self.old)) }
+        ensures sure { OnErr result (IsCostlyOn M.at (event.Slave slave) self.old) }
         ensures image { self.new.image ≡ self.old.image }
         ensures slaves { self.new.slaves ≡ self.old.slaves }
     {
@@ -153,11 +152,11 @@ impl<M: Memory> Stage<M> {
     pub(crate) fn commit(&mut self, alloc: Global) -> Result<Effect, AllocError>
         requires image { IsImage self.old.image }
         requires tasks { ∥ AreTasksOf self.old.image (shown M.at self.old).tasks ∥₁ }
-        requires position { self.old.machine.position + steps_of (tasks_modelled (shown M.at self.old).tasks) < 2 ^ 64 - 1 }
-        ensures ok { IfOk result (λ effect. Does self.old.image self.old.slaves event.Commit (shown M.at self.old) effect (shown M.at self.new)) }
+        requires position { HasRoomForSteps M.at self.old }
+        ensures ok { IfOk result (λ effect. DoesOn M.at event.Commit self.old effect self.new) }
         ensures tasks { OnOk result (∥ AreTasksOf self.old.image (shown M.at self.new).tasks ∥₁) }
         ensures err { OnErr result (shown M.at self.new ≡ shown M.at self.old) }
-        ensures sure { OnErr result (IsCostly self.old.image self.old.slaves event.Commit (shown M.at self.old)) }
+        ensures sure { OnErr result (IsCostlyOn M.at event.Commit self.old) }
         ensures image { self.new.image ≡ self.old.image }
         ensures slaves { self.new.slaves ≡ self.old.slaves }
     {

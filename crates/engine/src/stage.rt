@@ -1,5 +1,5 @@
 //! What an engine is made of but for its counts, and an event on it.
-ghost use Rattle.std.specs.Prelude.{◌≡◌, ℕ, ◌+◌, ◌-◌, ◌^◌, ◌<◌, ◌≤◌, Bool, true, false, length, IfOk, OnOk, OnErr, IsNone};
+ghost use Rattle.std.specs.Prelude.{◌≡◌, ◌-◌, ◌^◌, ◌<◌, ◌≤◌, true, false, length, IfOk, OnOk, OnErr, IsNone};
 
 use dist_image::Image;
 use master::Master;
@@ -28,27 +28,27 @@ pub(crate) struct Stage<M: Memory> {
 
 impl<M: Memory> Stage<M> {
     ghost use Rattle.cells.specs.Run.{is_over};
-    ghost use Rattle.speculation.specs.Task.{steps_of};
     ghost use Rattle.speculation.specs.Kept.{AreNumbered};
     ghost use Rattle.speculation_laws.specs.Told.{may_start, is_speculating, has_done_front};
     ghost use Rattle.dist_image.specs.Image.{IsImage};
-    ghost use Rattle.engine.specs.Shown.{shown, tasks_modelled, AreTasksOf, Happens, IsCostly, given_up, at_rest};
+    ghost use Rattle.engine.specs.Shown.{shown, tasks_modelled, AreTasksOf, HappensOn, IsCostlyOn, IsEmptyInSerial};
+    ghost use Rattle.engine.specs.Shown.{HasRoomForSteps, given_up, at_rest};
 
     /// One event. Nothing happens once the machine has ended.
     #[inline(always)]
     pub(crate) fn happen(&mut self, alloc: Global, e: Event) -> Result<Effect, AllocError>
         requires image { IsImage self.old.image }
         requires tasks { ∥ AreTasksOf self.old.image (shown M.at self.old).tasks ∥₁ }
-        requires empty { (debt : Bool) → self.old.mode ≡ Mode.Serial debt → length self.old.tasks.items ≡ 0 }
-        requires position { self.old.machine.position + steps_of (tasks_modelled (shown M.at self.old).tasks) < 2 ^ 64 - 1 }
+        requires empty { IsEmptyInSerial self.old }
+        requires position { HasRoomForSteps M.at self.old }
         requires next { self.old.next < 2 ^ 64 - 1 }
         requires few { length self.old.tasks.items ≤ self.old.slaves }
         requires numbers { AreNumbered self.old.next (tasks_modelled (shown M.at self.old).tasks) }
-        ensures ok { IfOk result (λ effect. Happens self.old.image self.old.slaves e (shown M.at self.old) effect (shown M.at self.new)) }
+        ensures ok { IfOk result (λ effect. HappensOn M.at e self.old effect self.new) }
         ensures tasks { OnOk result (∥ AreTasksOf self.old.image (shown M.at self.new).tasks ∥₁) }
         ensures err { OnErr result (shown M.at self.new ≡ shown M.at self.old) }
         ensures running { OnErr result (is_over (shown M.at self.old).committed ≡ false) }
-        ensures sure { OnErr result (IsCostly self.old.image self.old.slaves e (shown M.at self.old)) }
+        ensures sure { OnErr result (IsCostlyOn M.at e self.old) }
         ensures image { self.new.image ≡ self.old.image }
         ensures slaves { self.new.slaves ≡ self.old.slaves }
     {
@@ -70,7 +70,7 @@ impl<M: Memory> Stage<M> {
     pub(crate) fn rests(&self, e: Event) -> bool
         requires few { length self.now.tasks.items ≤ self.now.slaves }
         requires numbers { AreNumbered self.now.next (tasks_modelled (shown M.at self.now).tasks) }
-        ensures { result ≡ true → Happens self.now.image self.now.slaves e (shown M.at self.now) Effect.Idle (shown M.at self.now) }
+        ensures { result ≡ true → HappensOn M.at e self.now Effect.Idle self.now }
     {
         match e {
             Event::Restart => !self.may_start(),
