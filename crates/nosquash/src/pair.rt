@@ -1,6 +1,6 @@
 //! The pair of an engine and what its tasks and master are known to track.
 ghost use Rattle.engine.specs.Whole.{start_of, image_of, slaves_of, model_of};
-ghost use Rattle.fitting_laws.specs.Laws.{TracksRun};
+ghost use Rattle.nosquash.specs.Pairs.{Tracks};
 
 use dist_image::Image;
 use elf_reader::Program;
@@ -13,28 +13,25 @@ use std::alloc::{AllocError, Global};
 #[derive(Drop)]
 pub struct Pair<M: Memory> {
     engine: Engine<M>,
-    ghost tracks: { ∥ TracksRun (start_of M.at engine) (image_of engine) (slaves_of engine) (model_of M.at engine) ∥₁ },
+    ghost tracks: { ∥ Tracks M.at engine ∥₁ },
 }
 
 impl<M: Memory> Pair<M> {
-    ghost use Rattle.std.specs.Prelude.{◌≡◌, ℕ, ◌+◌, ◌-◌, ◌^◌, ◌<◌, ◌≤◌, ◌||◌, Bool, true, false, IfOk, OnErr};
+    ghost use Rattle.std.specs.Prelude.{◌≡◌, ℕ, ◌+◌, ◌-◌, ◌^◌, ◌<◌, ◌≤◌, false, IfOk, OnErr};
     ghost use Rattle.cells.specs.Run.{is_over};
-    ghost use Rattle.speculation.specs.declared.Mode.TheVariants as mode;
-    ghost use Rattle.speculation.specs.World.{seq};
-    ghost use Rattle.speculation.specs.Engine.{happens, fresh};
-    ghost use Rattle.speculation_laws.specs.Told.{Tells, waits, is_idle};
+    ghost use Rattle.speculation.specs.Engine.{fresh};
     ghost use Rattle.squash_laws.specs.Tracks.{IsSafe};
-    ghost use Rattle.rv_semantics.specs.Start.{program_word};
     ghost use Rattle.elf_reader.specs.Executable.{IsProgram};
-    ghost use Rattle.seq_machine.specs.Parts.{loaded, start_of as program_start};
     ghost use Rattle.fitting.specs.Fits.{Fits};
     ghost use Rattle.fitting.specs.Fails.{program as words_of, Meets, Reaches};
     ghost use Rattle.assume_list.specs.declared.verdict.Verdict.{Verdict};
     ghost use Rattle.assume_list.specs.Verdicts.{IsVerdict};
     ghost use Rattle.nosquash.specs.Laws.{BreaksBefore};
+    ghost use Rattle.nosquash.specs.Pairs.{RunsProgram, HoldsWords};
     ghost use Rattle.dist_image.specs.Image.{IsImage};
-    ghost use Rattle.engine.specs.Shown.{MayTake, IsSerial};
+    ghost use Rattle.engine.specs.Shown.{IsSerial};
     ghost use Rattle.engine.specs.Whole.{world_of};
+    ghost use Rattle.engine.specs.Whole.{IsEvent, MayTakeOn, IsSequential, AreStepsCounted, IsTold, IsRightlyIdle, OwesStep};
 
     /// A pair of an engine that has had no event, and whose run is that of the program with the
     /// input that the engine's machine holds. Takes no memory.
@@ -44,9 +41,9 @@ impl<M: Memory> Pair<M> {
     pub fn new(engine: Engine<M>, program: &Program) -> Pair<M>
         requires program { IsProgram program.now }
         requires fresh { model_of M.at engine ≡ fresh (world_of M.at engine) }
-        requires start { start_of M.at engine ≡ program_start program.now (model_of M.at engine).committed.env.input }
+        requires start { RunsProgram M.at engine program.now }
         ensures engine { result.engine ≡ engine }
-        ensures words { (pc : ℕ) → words_of (start_of M.at result.engine) pc ≡ program_word (loaded program.now) pc }
+        ensures words { HoldsWords M.at result.engine program.now }
     {
         let _ = program;
         Pair { engine }
@@ -67,23 +64,23 @@ impl<M: Memory> Pair<M> {
     pub fn event(&mut self, alloc: Global, e: Event) -> Result<Effect, AllocError>
         requires { (model_of M.at self.old.engine).counts.events < 2 ^ 64 - 1 }
         // It is the engine's event.
-        ensures ok { IfOk result (λ effect. (effect, model_of M.at self.new.engine) ≡ happens (world_of M.at self.old.engine) (model_of M.at self.old.engine) e) }
+        ensures ok { IfOk result (λ effect. IsEvent M.at e self.old.engine effect self.new.engine) }
         ensures err { OnErr result (model_of M.at self.new.engine ≡ model_of M.at self.old.engine) }
-        ensures sure { OnErr result (MayTake (happens (world_of M.at self.old.engine) (model_of M.at self.old.engine) e).0) }
+        ensures sure { OnErr result (MayTakeOn M.at e self.old.engine) }
         ensures start { start_of M.at self.new.engine ≡ start_of M.at self.old.engine }
         ensures image { image_of self.new.engine ≡ image_of self.old.engine }
         ensures slaves { slaves_of self.new.engine ≡ slaves_of self.old.engine }
         // What is committed is the sequential run, and never falls back; and what is told is so.
-        ensures sequential { (model_of M.at self.new.engine).committed ≡ seq (world_of M.at self.new.engine) (model_of M.at self.new.engine).position }
-        ensures position { let c = (model_of M.at self.new.engine).counts in (model_of M.at self.new.engine).position ≡ c.by_tasks + c.serial }
+        ensures sequential { IsSequential M.at self.new.engine }
+        ensures position { AreStepsCounted (model_of M.at self.new.engine) }
         ensures rises { (model_of M.at self.old.engine).position ≤ (model_of M.at self.new.engine).position }
-        ensures told { IfOk result (λ effect. Tells (world_of M.at self.old.engine) (model_of M.at self.old.engine) e effect (model_of M.at self.new.engine)) }
-        ensures idle { IfOk result (λ effect. is_idle effect ≡ (is_over (model_of M.at self.old.engine).committed || waits (world_of M.at self.old.engine) (model_of M.at self.old.engine) e)) }
+        ensures told { IfOk result (λ effect. IsTold M.at e self.old.engine effect self.new.engine) }
+        ensures idle { IfOk result (λ effect. IsRightlyIdle M.at e self.old.engine effect) }
         // A squash costs a step but for the last one, no position is gained without an event, and where speculation is given up a step is owed.
         ensures squashed { let c = (model_of M.at self.new.engine).counts in c.squashed ≤ c.serial + 1 }
-        ensures serial { (model_of M.at self.new.engine).counts.serial ≤ (model_of M.at self.new.engine).position }
-        ensures events { (model_of M.at self.new.engine).position ≤ (model_of M.at self.new.engine).counts.events }
-        ensures owed { (model_of M.at self.old.engine).mode ≡ mode.Speculating → (debt : Bool) → (model_of M.at self.new.engine).mode ≡ mode.Serial debt → debt ≡ true }
+        ensures serial { let m = model_of M.at self.new.engine in m.counts.serial ≤ m.position }
+        ensures events { let m = model_of M.at self.new.engine in m.position ≤ m.counts.events }
+        ensures owed { OwesStep (model_of M.at self.old.engine) (model_of M.at self.new.engine) }
         // With an image that fits and a list that is met, nothing is squashed or given up.
         ensures safe { let start = start_of M.at self.old.engine in let image = image_of self.old.engine in
             IfOk result (λ effect. Fits (words_of start) image → (n : ℕ) → Meets start image n
