@@ -1,11 +1,15 @@
 -- What a run comes to where a speculative machine runs and a report is asked for.
 use Rattle.std.specs.Prelude.{◌≡◌, ℕ, ◌+◌, ◌<◌, List, Option, Some, None}
+use Rattle.outside.specs.Answers.{Gains}
 use Rattle.outside.specs.Files.{Files}
 use Rattle.speculation.specs.declared.Event.{Event}
 use Rattle.speculation.specs.World.{World}
 use Rattle.speculation.specs.Engine.{Model}
-use Rattle.speculation_schedules.specs.Schedule.{in_rounds, alone, IsFirstStop, enough}
+use Rattle.speculation_schedules.specs.Schedule.{in_rounds, alone, after, IsFirstStop, enough}
 use Rattle.speculation_schedules.specs.Laws.{StopsAt}
+use Rattle.memory.specs.declared.Memory.{Ghosts}
+use Rattle.engine.specs.declared.engine.Engine.{Engine}
+use Rattle.engine.specs.Whole.{slaves_of, world_of}
 use Rattle.report.specs.Events.{summary_text}
 use Rattle.answers.specs.declared.answer.Source.TheVariants as source
 use Rattle.answers.specs.declared.answer.Answer.{Answer}
@@ -24,6 +28,10 @@ schedule_of None = Alone
 abbrev pub events_of : Schedule → ℕ → ℕ → Event
 events_of Rounds slaves = in_rounds slaves
 events_of Alone slaves = alone
+
+-- the models of an engine that has had no event, after each number of the events of a schedule
+abbrev pub models_of : {M : Type 0} {d : Ghosts M} → (M → ℕ → ℕ) → Schedule → Engine M d → ℕ → Model
+models_of at s e = after (world_of at e) (events_of s (slaves_of e))
 
 -- so many events are enough to come so far
 abbrev pub most : Schedule → World → ℕ → ℕ
@@ -51,6 +59,14 @@ pub record IsStop (w : World) (models : ℕ → Model) (budget k : ℕ) : Type 0
   pub first : IsFirstStop models budget k
   pub sequential : StopsAt w models budget k
   pub near : (models k).position < budget + 16384
+
+-- the machine came to its stop: this is its model there, and all of its output was put
+abbrev pub Came : World → (ℕ → Model) → ℕ → Model → Option (List ℕ) → Option (List ℕ) → Type 0
+Came w models budget m told left = (k : ℕ) × IsStop w models budget k × (m ≡ models k) × Gains told left (models k).committed.env.output
+
+-- it was cut off, and a part of the output at its stop was put
+abbrev pub CutShort : World → (ℕ → Model) → ℕ → Puts → Answer → Type 0
+CutShort w models budget out a = (k : ℕ) × IsStop w models budget k × CutOff out (models k).committed.env.output a
 
 -- the machine is given the events up to that point, and stopped so; these are its models after each number of events
 abbrev pub Speculated : World → (ℕ → Model) → ℕ → List ℕ → Reads → Option Files → Puts → Answer → Type 0

@@ -21,7 +21,8 @@ pub fn put_from<O: Sink>(
 ) -> Result<(), Answer>
     requires { from ≤ length bytes.now }
     ensures ok { OnOk result (Gains (O.told out.old) (O.told out.new) (drop from bytes.now)) }
-    ensures err { IfErr result (Stops (O.told out.old) (O.told out.new) (O.faults out.old) (O.faults out.new) (drop from bytes.now)) }
+    ensures err { IfErr result (Stops (O.told out.old) (O.told out.new) (O.faults out.old) (O.faults out.new)
+        (drop from bytes.now)) }
     ensures faults { O.faults out.old ≤ O.faults out.new }
 {
     if from == bytes.len() {

@@ -7,12 +7,12 @@ ghost use Rattle.cells.specs.Run.{is_over};
 ghost use Rattle.dist_image.specs.Image.{IsImage};
 ghost use Rattle.speculation.specs.Engine.{fresh};
 ghost use Rattle.speculation.specs.Rounds.{round};
-ghost use Rattle.speculation_schedules.specs.Schedule.{after, has_come};
+ghost use Rattle.speculation_schedules.specs.Schedule.{has_come};
 ghost use Rattle.engine.specs.Whole.{start_of, model_of, world_of, image_of, slaves_of};
 ghost use Rattle.report.specs.Events.{summary_text};
 ghost use Rattle.speculative_runs.specs.Told.{Reads, Puts, Written};
-ghost use Rattle.speculative_runs.specs.Driven.{Stops, CutOff};
-ghost use Rattle.speculative_runs.specs.Speculated.{schedule_of, events_of, IsStop, Unwritten, Speculated};
+ghost use Rattle.speculative_runs.specs.Driven.{Stops};
+ghost use Rattle.speculative_runs.specs.Speculated.{schedule_of, events_of, models_of, Came, CutShort, Unwritten, Speculated};
 
 use crate::driving::{put_from, stand};
 use answers::{Answer, Source};
@@ -135,7 +135,8 @@ pub fn put_after<O: Sink, M: Memory>(
     from: usize,
 ) -> Result<usize, Answer>
     requires from { from ≤ length (model_of M.at pair.now.engine).committed.env.output }
-    requires idle { effect ≡ Effect.Idle → from ≡ length (model_of M.at pair.now.engine).committed.env.output }
+    requires idle { effect ≡ Effect.Idle
+        → from ≡ length (model_of M.at pair.now.engine).committed.env.output }
     ensures length { IfOk result (λ n. n ≡ length (model_of M.at pair.now.engine).committed.env.output) }
     ensures ok { OnOk result (Gains (O.told out.old) (O.told out.new)
         (drop from (model_of M.at pair.now.engine).committed.env.output)) }
@@ -168,12 +169,16 @@ fn advance<O: Sink, M: Memory>(
     requires few { slaves ≤ 64 }
     requires least { 1 ≤ budget }
     requires most { budget ≤ 10 ^ 12 }
-    ensures ok { OnOk result ((k : ℕ) × IsStop (world_of M.at pair.old.engine) (after (world_of M.at pair.old.engine) (events_of schedule (slaves_of pair.old.engine))) budget k
-        × (model_of M.at pair.new.engine ≡ after (world_of M.at pair.old.engine) (events_of schedule (slaves_of pair.old.engine)) k)
-        × Gains (O.told out.old) (O.told out.new) (after (world_of M.at pair.old.engine) (events_of schedule (slaves_of pair.old.engine)) k).committed.env.output) }
-    ensures err { IfErr result (λ a. (k : ℕ) × IsStop (world_of M.at pair.old.engine) (after (world_of M.at pair.old.engine) (events_of schedule (slaves_of pair.old.engine))) budget k
-        × CutOff (record { told = O.told out.old; left = O.told out.new; before = O.faults out.old; now = O.faults out.new })
-        (after (world_of M.at pair.old.engine) (events_of schedule (slaves_of pair.old.engine)) k).committed.env.output a) }
+    ensures ok { OnOk result (Came (world_of M.at pair.old.engine) (models_of M.at schedule pair.old.engine)
+        budget (model_of M.at pair.new.engine) (O.told out.old) (O.told out.new)) }
+    ensures err { IfErr result (CutShort (world_of M.at pair.old.engine)
+        (models_of M.at schedule pair.old.engine) budget
+        (record {
+          told = O.told out.old;
+          left = O.told out.new;
+          before = O.faults out.old;
+          now = O.faults out.new;
+        })) }
 {
     let mut given: u64 = 0;
     let mut place = 0;
@@ -205,7 +210,8 @@ pub fn write_report<S: Store, M: Memory>(
     name: &str,
     pair: &Pair<M>,
 ) -> Result<(), Answer>
-    ensures ok { OnOk result (Written (S.told store.old) (S.told store.new) name.now (summary_text (model_of M.at pair.now.engine))) }
+    ensures ok { OnOk result (Written (S.told store.old) (S.told store.new) name.now
+        (summary_text (model_of M.at pair.now.engine))) }
     ensures err { IfErr result (Unwritten
         (record { told = S.told store.old; before = S.faults store.old; now = S.faults store.new; failed = S.failed store.new }) (S.told store.new) name.now) }
 {
@@ -235,8 +241,9 @@ pub fn speculate<S: Store, O: Sink, M: Memory>(
     requires silent { (start_of M.at pair.old.engine).env.output ≡ [] }
     requires slaves { run.now.slaves ≡ slaves_of pair.old.engine }
     ensures { Speculated (world_of M.at pair.old.engine)
-        (after (world_of M.at pair.old.engine) (events_of (schedule_of (shown_run run.now).image) (slaves_of pair.old.engine))) run.now.budget name.now
-        (record { told = S.told store.old; before = S.faults store.old; now = S.faults store.new; failed = S.failed store.new }) (S.told store.new)
+        (models_of M.at (schedule_of (shown_run run.now).image) pair.old.engine) run.now.budget name.now
+        (record { told = S.told store.old; before = S.faults store.old; now = S.faults store.new; failed = S.failed store.new })
+        (S.told store.new)
         (record { told = O.told out.old; left = O.told out.new; before = O.faults out.old; now = O.faults out.new })
         result }
 {
