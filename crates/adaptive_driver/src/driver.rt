@@ -1,16 +1,13 @@
 //! A run that adapts: it is given rounds until it has come far enough, and then told of by a report.
 ghost use Rattle.std.specs.Prelude.{◌≡◌, ◌≤◌, ◌^◌, ℕ, false, [], OnOk, IfErr};
-ghost use Rattle.outside.specs.Answers.{Gains};
 ghost use Rattle.cells.specs.Run.{is_over};
 ghost use Rattle.dist_image.specs.Image.{IsImage};
 ghost use Rattle.speculation.specs.Engine.{fresh};
 ghost use Rattle.engine.specs.Whole.{start_of, image_of, slaves_of, model_of, world_of};
-ghost use Rattle.adaptive_runs.specs.Adaptive.{model_at};
 ghost use Rattle.speculative_runs.specs.Told.{Reads, Puts};
-ghost use Rattle.speculative_runs.specs.Driven.{CutOff};
-ghost use Rattle.speculative_runs.specs.Speculated.{IsStop, Speculated};
+ghost use Rattle.speculative_runs.specs.Speculated.{Came, CutShort, Speculated};
 ghost use Rattle.adapt.specs.Laws.{AreMade};
-ghost use Rattle.adaptive_driver.specs.Adapted.{plan_with, AreOfOneRun};
+ghost use Rattle.adaptive_driver.specs.Adapted.{models_with, AreOfOneRun};
 
 use crate::renewal::make_ready;
 use adapt::Adapter;
@@ -44,12 +41,17 @@ fn advance<O: Sink, M: Memory>(
     requires run { AreOfOneRun M.at pair.old.engine adapter.old }
     requires due { adapter.old.due ≡ adapter.old.every }
     requires made { AreMade adapter.old.program }
-    ensures ok { OnOk result ((k : ℕ) × IsStop (world_of M.at pair.old.engine) (model_at (plan_with M.at pair.old.engine adapter.old)) budget k
-        × (model_of M.at pair.new.engine ≡ model_at (plan_with M.at pair.old.engine adapter.old) k)
-        × Gains (O.told out.old) (O.told out.new) (model_at (plan_with M.at pair.old.engine adapter.old) k).committed.env.output) }
-    ensures err { IfErr result (λ a. (k : ℕ) × IsStop (world_of M.at pair.old.engine) (model_at (plan_with M.at pair.old.engine adapter.old)) budget k
-        × CutOff (record { told = O.told out.old; left = O.told out.new; before = O.faults out.old; now = O.faults out.new })
-        (model_at (plan_with M.at pair.old.engine adapter.old) k).committed.env.output a) }
+    ensures ok { OnOk result (Came (world_of M.at pair.old.engine)
+        (models_with M.at pair.old.engine adapter.old) budget
+        (model_of M.at pair.new.engine) (O.told out.old) (O.told out.new)) }
+    ensures err { IfErr result (CutShort (world_of M.at pair.old.engine)
+        (models_with M.at pair.old.engine adapter.old) budget
+        (record {
+          told = O.told out.old;
+          left = O.told out.new;
+          before = O.faults out.old;
+          now = O.faults out.new;
+        })) }
 {
     let mut given: u64 = 0;
     let mut place = 0;
@@ -93,8 +95,10 @@ pub fn speculate_adapting<S: Store, O: Sink, M: Memory>(
     requires run { AreOfOneRun M.at pair.old.engine adapter.old }
     requires due { adapter.old.due ≡ adapter.old.every }
     requires made { AreMade adapter.old.program }
-    ensures { Speculated (world_of M.at pair.old.engine) (model_at (plan_with M.at pair.old.engine adapter.old)) run.now.budget name.now
-        (record { told = S.told store.old; before = S.faults store.old; now = S.faults store.new; failed = S.failed store.new }) (S.told store.new)
+    ensures { Speculated (world_of M.at pair.old.engine) (models_with M.at pair.old.engine adapter.old)
+        run.now.budget name.now
+        (record { told = S.told store.old; before = S.faults store.old; now = S.faults store.new; failed = S.failed store.new })
+        (S.told store.new)
         (record { told = O.told out.old; left = O.told out.new; before = O.faults out.old; now = O.faults out.new })
         result }
 {

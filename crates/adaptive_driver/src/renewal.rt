@@ -6,7 +6,7 @@ ghost use Rattle.dist_image.specs.Image.{IsImage};
 ghost use Rattle.engine.specs.Shown.{IsSerial};
 ghost use Rattle.engine.specs.Whole.{start_of, image_of, slaves_of, model_of};
 ghost use Rattle.adaptive_runs.specs.Adaptive.{renewed, ready};
-ghost use Rattle.adaptive_driver.specs.Adapted.{plan_with, stage_of, AreOfOneRun, AreAlike};
+ghost use Rattle.adaptive_driver.specs.Adapted.{plan_with, stage_of, may_exchange_at, AreOfOneRun, AreAlike};
 
 use adapt::Adapter;
 use dist_image::Image;
@@ -66,7 +66,7 @@ fn is_serial(mode: Mode) -> bool
 // Whether this is the first place of a round, with nothing speculated on and the run going on.
 #[inline(always)]
 fn may_exchange<M: Memory>(pair: &Pair<M>, place: u8) -> bool
-    ensures { result ≡ ((place == 0) && not (is_speculating (model_of M.at pair.now.engine).mode) && not (is_over (model_of M.at pair.now.engine).committed)) }
+    ensures { result ≡ may_exchange_at place (model_of M.at pair.now.engine) }
 {
     place == 0 && is_serial(pair.engine().mode()) && pair.engine().committed().end.is_none()
 }
@@ -87,7 +87,8 @@ pub fn make_ready<M: Memory>(
 ) -> Result<(), AllocError>
     requires run { AreOfOneRun M.at pair.old.engine adapter.old }
     requires near { (model_of M.at pair.old.engine).position ≤ 10 ^ 12 }
-    ensures stage { OnOk result ((k : ℕ) → k % (slaves_of pair.old.engine + 7) ≡ place → stage_of M.at pair.new.engine adapter.new
+    ensures stage { OnOk result ((k : ℕ) → k % (slaves_of pair.old.engine + 7) ≡ place
+        → stage_of M.at pair.new.engine adapter.new
         ≡ ready (plan_with M.at pair.old.engine adapter.old) k (stage_of M.at pair.old.engine adapter.old)) }
     ensures run { OnOk result (AreOfOneRun M.at pair.new.engine adapter.new) }
     ensures alike { OnOk result (AreAlike adapter.new adapter.old) }
