@@ -41,10 +41,17 @@ fn advance<O: Sink, M: Memory>(
     requires run { AreOfOneRun M.at pair.old.engine adapter.old }
     requires due { adapter.old.due ≡ adapter.old.every }
     requires made { AreMade adapter.old.program }
-    ensures ok { OnOk result (Came (world_of M.at pair.old.engine) (models_with M.at pair.old.engine adapter.old) budget
+    ensures ok { OnOk result (Came (world_of M.at pair.old.engine)
+        (models_with M.at pair.old.engine adapter.old) budget
         (model_of M.at pair.new.engine) (O.told out.old) (O.told out.new)) }
-    ensures err { IfErr result (CutShort (world_of M.at pair.old.engine) (models_with M.at pair.old.engine adapter.old) budget
-        (record { told = O.told out.old; left = O.told out.new; before = O.faults out.old; now = O.faults out.new })) }
+    ensures err { IfErr result (CutShort (world_of M.at pair.old.engine)
+        (models_with M.at pair.old.engine adapter.old) budget
+        (record {
+          told = O.told out.old;
+          left = O.told out.new;
+          before = O.faults out.old;
+          now = O.faults out.new;
+        })) }
 {
     let mut given: u64 = 0;
     let mut place = 0;
@@ -88,7 +95,8 @@ pub fn speculate_adapting<S: Store, O: Sink, M: Memory>(
     requires run { AreOfOneRun M.at pair.old.engine adapter.old }
     requires due { adapter.old.due ≡ adapter.old.every }
     requires made { AreMade adapter.old.program }
-    ensures { Speculated (world_of M.at pair.old.engine) (models_with M.at pair.old.engine adapter.old) run.now.budget name.now
+    ensures { Speculated (world_of M.at pair.old.engine) (models_with M.at pair.old.engine adapter.old)
+        run.now.budget name.now
         (record { told = S.told store.old; before = S.faults store.old; now = S.faults store.new; failed = S.failed store.new })
         (S.told store.new)
         (record { told = O.told out.old; left = O.told out.new; before = O.faults out.old; now = O.faults out.new })

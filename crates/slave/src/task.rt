@@ -31,7 +31,8 @@ impl<M: Memory> Task<M> {
     ghost use Rattle.layers.specs.Layered.{HasRoom};
     ghost use Rattle.dist_image.specs.Image.{IsImage, IsAnchor, prints_at};
     ghost use Rattle.slave.specs.Task.{shown, fresh_at, did_of, went, advanced, performed, performed_in};
-    ghost use Rattle.slave.specs.Task.{goes_to, called_there, goes_on_behind, IsModelAt, IsTaskOfAny, StaysTaskOf, HadEvent, GoesAlong};
+    ghost use Rattle.slave.specs.Task.{goes_to, called_there, goes_on_behind};
+    ghost use Rattle.slave.specs.Task.{IsModelAt, IsTaskOfAny, StaysTaskOf, HadEvent, GoesAlong};
 
     /// A task of this number at an anchor of an image, with the registers and the memory there. Its
     /// view records the anchor's pc.
@@ -212,7 +213,7 @@ fn may_print(image: &Image, pc: u32) -> bool
     !image.writes.is_empty() && prints_at(image, pc)
 }
 
-// Whether an anchor stands at this pc, and how many do below it. The number of the last look is tried before it is searched for.
+// Whether an anchor stands at this pc, and how many do below it. The number of the last look is tried first.
 #[inline(always)]
 fn look(image: &Image, below: usize, pc: u32) -> (bool, usize)
     requires { IsImage image.now }

@@ -175,10 +175,16 @@ fn advance<O: Sink, M: Memory>(
     requires few { slaves ≤ 64 }
     requires least { 1 ≤ budget }
     requires most { budget ≤ 10 ^ 12 }
-    ensures ok { OnOk result (Came (world_of M.at pair.old.engine) (models_of M.at schedule pair.old.engine) budget
-        (model_of M.at pair.new.engine) (O.told out.old) (O.told out.new)) }
-    ensures err { IfErr result (CutShort (world_of M.at pair.old.engine) (models_of M.at schedule pair.old.engine) budget
-        (record { told = O.told out.old; left = O.told out.new; before = O.faults out.old; now = O.faults out.new })) }
+    ensures ok { OnOk result (Came (world_of M.at pair.old.engine) (models_of M.at schedule pair.old.engine)
+        budget (model_of M.at pair.new.engine) (O.told out.old) (O.told out.new)) }
+    ensures err { IfErr result (CutShort (world_of M.at pair.old.engine)
+        (models_of M.at schedule pair.old.engine) budget
+        (record {
+          told = O.told out.old;
+          left = O.told out.new;
+          before = O.faults out.old;
+          now = O.faults out.new;
+        })) }
 {
     let mut given: u64 = 0;
     let mut place = 0;
