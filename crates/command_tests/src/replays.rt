@@ -1,5 +1,6 @@
 //! `replay`, over programs, images made by hand and lists of events.
 
+use crate::left::{left_so, told_so};
 use command_fixtures::outside_world::{Fails, Files, Left, SURE, perform_over};
 use std::alloc::{AllocError, Global};
 use std::test::Fail;
@@ -41,9 +42,7 @@ fn a_list_without_events_is_summed_up(rt: HostRuntime) -> Result<(), Fail> {
     let alloc = rt.alloc();
     for events in ["", "\n", "# 1 serial\n\n#"] {
         let left = replay(alloc, REPLAY, &TEN_TURNS_LOOP, &TEN_TURNS, events, SURE)?;
-        assert_eq!(rt; left.status, 0, "{events:?}");
-        assert_eq!(rt; left.out.as_slice(), NOTHING.as_bytes(), "{events:?}");
-        assert!(rt; left.err.is_empty(), "{events:?}");
+        assert!(rt; left_so(&left, NOTHING, 0, ""), "{events:?}");
     }
     Ok(())
 }
@@ -252,15 +251,26 @@ static THE_INPUT_IS_READ_CASES: [(&[&str], &str); 2] = [
     ),
 ];
 
+/// Whether a replay by these words has an output of this end.
+fn ends_so(alloc: Global, words: &[&str], end: &str) -> Result<bool, AllocError> {
+    let left = replay(alloc, words, &READ_TWICE, &TEN_TURNS, "12 serial\n", SURE)?;
+    Ok(left.status == 0 && left.out.ends_with(end.as_bytes()))
+}
+
 #[test]
 fn the_input_is_read(rt: HostRuntime) -> Result<(), Fail> {
     let alloc = rt.alloc();
     for &(words, end) in &THE_INPUT_IS_READ_CASES {
-        let left = replay(alloc, words, &READ_TWICE, &TEN_TURNS, "12 serial\n", SURE)?;
-        assert_eq!(rt; left.status, 0, "{words:?}");
-        assert!(rt; left.out.ends_with(end.as_bytes()), "{words:?}");
+        assert!(rt; ends_so(alloc, words, end)?, "{words:?}");
     }
     Ok(())
+}
+
+/// Whether a replay of these events is refused and tells this of them.
+fn refused_so(alloc: Global, events: &str, what: &str) -> Result<bool, AllocError> {
+    let left = replay(alloc, REPLAY, &TEN_TURNS_LOOP, &TEN_TURNS, events, SURE)?;
+    let told = format!(in alloc; "events e: {what}")?;
+    told_so(alloc, &left, 0, 119, &told)
 }
 
 #[test]
@@ -275,11 +285,7 @@ fn a_refused_list_is_told_by_its_first_fault(rt: HostRuntime) -> Result<(), Fail
         ("100000001 master\n", "line 1"),
     ];
     for (events, what) in cases {
-        let left = replay(alloc, REPLAY, &TEN_TURNS_LOOP, &TEN_TURNS, events, SURE)?;
-        let line = format!(in alloc; "mssp: events e: {what}\n")?;
-        assert_eq!(rt; left.status, 119, "{what}");
-        assert_eq!(rt; left.err.as_slice(), line.as_bytes());
-        assert!(rt; left.out.is_empty(), "{what}");
+        assert!(rt; refused_so(alloc, events, what)?, "{what}");
     }
     Ok(())
 }
@@ -295,27 +301,50 @@ static FILES_OF_A_REPLAY_ARE_READ_IN_ORDER_CASES: [(&[&str], u8, &str); 8] = [
     (&["p", "m", "e", "--input", "no"], 111, "absent no"),
 ];
 
+/// Whether a replay of the files of these names puts nothing, and leaves this status and tells this.
+fn files_are_refused_so(
+    alloc: Global,
+    names: &[&str],
+    status: u8,
+    what: &str,
+) -> Result<bool, AllocError> {
+    let mut words = vec![in alloc; "replay"]?;
+    words.extend_from_slice(names)?;
+    let left = replay(
+        alloc,
+        &words,
+        &TEN_TURNS_LOOP,
+        &TEN_TURNS,
+        "1 serial\n",
+        SURE,
+    )?;
+    told_so(alloc, &left, 0, status, what)
+}
+
 #[test]
 fn files_of_a_replay_are_read_in_order(rt: HostRuntime) -> Result<(), Fail> {
     let alloc = rt.alloc();
     // a file of the list is refused as a program and as an image
     for &(names, status, what) in &FILES_OF_A_REPLAY_ARE_READ_IN_ORDER_CASES {
-        let mut words = vec![in alloc; "replay"]?;
-        words.extend_from_slice(names)?;
-        let left = replay(
-            alloc,
-            &words,
-            &TEN_TURNS_LOOP,
-            &TEN_TURNS,
-            "1 serial\n",
-            SURE,
-        )?;
-        let line = format!(in alloc; "mssp: {what}\n")?;
-        assert_eq!(rt; left.status, status, "{names:?}");
-        assert_eq!(rt; left.err.as_slice(), line.as_bytes());
-        assert!(rt; left.out.is_empty(), "{names:?}");
+        assert!(rt;
+            files_are_refused_so(alloc, names, status, what)?,
+            "{names:?}"
+        );
     }
     Ok(())
+}
+
+/// Whether a replay where these calls fail puts so many bytes, and leaves this status and tells this.
+fn faults_so(
+    alloc: Global,
+    fails: Fails,
+    status: u8,
+    put: usize,
+    what: &str,
+) -> Result<bool, AllocError> {
+    let events = "8 serial\n1 commit\n";
+    let left = replay(alloc, REPLAY, &HELLO_TWICE, &TEN_TURNS, events, fails)?;
+    told_so(alloc, &left, put, status, what)
 }
 
 #[test]
@@ -330,14 +359,12 @@ fn faults_of_the_outside_stop_a_replay(rt: HostRuntime) -> Result<(), Fail> {
         (0, 3, 113, 16, "sink fault"),
         (0, 10, 113, 69, "sink fault"),
     ];
-    let events = "8 serial\n1 commit\n";
     for (store, out, status, put, what) in cases {
         let fails = Fails { store, out, err: 0 };
-        let left = replay(alloc, REPLAY, &HELLO_TWICE, &TEN_TURNS, events, fails)?;
-        let line = format!(in alloc; "mssp: {what}\n")?;
-        assert_eq!(rt; left.status, status, "{store} {out}");
-        assert_eq!(rt; left.out.len(), put, "{store} {out}");
-        assert_eq!(rt; left.err.as_slice(), line.as_bytes());
+        assert!(rt;
+            faults_so(alloc, fails, status, put, what)?,
+            "{store} {out}"
+        );
     }
     Ok(())
 }

@@ -1,5 +1,6 @@
 //! `run` with a report: beside images, made by hand or hostile, and without one.
 
+use crate::left::left_so;
 use command_fixtures::outside_world::{Fails, Files, Left, SURE, perform_over};
 use std::alloc::{AllocError, Global};
 use std::test::Fail;
@@ -108,27 +109,49 @@ output 3
     Ok(())
 }
 
+/// Whether a run without an image leaves this status and line, and a report of this head and end.
+fn reports_so(
+    alloc: Global,
+    words: &[&str],
+    program: &[u32],
+    (head, end): (&str, &str),
+    status: u8,
+    line: &str,
+) -> Result<bool, AllocError> {
+    let left = run(alloc, words, program, &EXIT_7_CALL, SURE)?;
+    let report = format!(in alloc; "{head}end {end}\noutput 0\n")?;
+    Ok(
+        left.status == status
+            && left.report.as_slice() == report.as_bytes()
+            && left.err.as_slice() == line.as_bytes(),
+    )
+}
+
 #[test]
 fn a_report_tells_a_budget_and_a_trap(rt: HostRuntime) -> Result<(), Fail> {
     let alloc = rt.alloc();
     let words = ["run", "p", "--budget", "2", "--report", "r"];
-    let left = run(alloc, &words, &EXIT_7, &EXIT_7_CALL, SURE)?;
     let head = "position 2\ntasks 0\nby-tasks 0\nserial 2\nsquashed 0\ndropped 0\n";
-    let report = format!(in alloc; "{head}end none\noutput 0\n")?;
-    assert_eq!(rt; left.status, 120);
-    assert_eq!(rt; left.report.as_slice(), report.as_bytes());
-    assert_eq!(rt; left.err.as_slice(), "mssp: budget\n".as_bytes());
+    let line = "mssp: budget\n";
+    assert!(rt; reports_so(alloc, &words, &EXIT_7, (head, "none"), 120, line)?);
 
-    let left = run(alloc, ALONE, &MISFETCH, &EXIT_7_CALL, SURE)?;
     let head = "position 3\ntasks 0\nby-tasks 0\nserial 3\nsquashed 0\ndropped 0\n";
-    let report = format!(in alloc; "{head}end misfetch 00010002\noutput 0\n")?;
-    assert_eq!(rt; left.status, 121);
-    assert_eq!(rt; left.report.as_slice(), report.as_bytes());
-    assert_eq!(rt;
-        left.err.as_slice(),
-        "mssp: trap 00010008 misfetch 00010002\n".as_bytes()
-    );
+    let end = "misfetch 00010002";
+    let line = "mssp: trap 00010008 misfetch 00010002\n";
+    assert!(rt; reports_so(alloc, ALONE, &MISFETCH, (head, end), 121, line)?);
     Ok(())
+}
+
+/// Whether a run beside an image, where these calls fail, leaves this and no report.
+fn no_report_so(
+    alloc: Global,
+    words: &[&str],
+    program: &[u32],
+    fails: Fails,
+    (out, status, line): (&str, u8, &str),
+) -> Result<bool, AllocError> {
+    let left = run(alloc, words, program, &EXIT_7_CALL, fails)?;
+    Ok(left_so(&left, out, status, line) && left.report.is_empty())
 }
 
 static AN_IMAGE_ASKS_FOR_A_REPORT_CASES: [&[&str]; 3] = [
@@ -141,14 +164,10 @@ static AN_IMAGE_ASKS_FOR_A_REPORT_CASES: [&[&str]; 3] = [
 fn an_image_asks_for_a_report(rt: HostRuntime) -> Result<(), Fail> {
     let alloc = rt.alloc();
     for &words in &AN_IMAGE_ASKS_FOR_A_REPORT_CASES {
-        let left = run(alloc, words, &HELLO, &EXIT_7_CALL, SURE)?;
-        assert_eq!(rt; left.status, 110, "{words:?}");
-        assert_eq!(rt;
-            left.err.as_slice(),
-            "mssp: usage\n".as_bytes(),
+        assert!(rt;
+            no_report_so(alloc, words, &HELLO, SURE, ("", 110, "mssp: usage\n"))?,
             "{words:?}"
         );
-        assert!(rt; left.out.is_empty() && left.report.is_empty(), "{words:?}");
     }
     Ok(())
 }
@@ -180,10 +199,10 @@ static FILES_ARE_WANTING_OR_REFUSED_IN_THEIR_ORDER_CASES: [(&[&str], u8, &str); 
 fn files_are_wanting_or_refused_in_their_order(rt: HostRuntime) -> Result<(), Fail> {
     let alloc = rt.alloc();
     for &(words, status, line) in &FILES_ARE_WANTING_OR_REFUSED_IN_THEIR_ORDER_CASES {
-        let left = run(alloc, words, &HELLO, &EXIT_7_CALL, SURE)?;
-        assert_eq!(rt; left.status, status, "{words:?}");
-        assert_eq!(rt; left.err.as_slice(), line.as_bytes(), "{words:?}");
-        assert!(rt; left.out.is_empty() && left.report.is_empty(), "{words:?}");
+        assert!(rt;
+            no_report_so(alloc, words, &HELLO, SURE, ("", status, line))?,
+            "{words:?}"
+        );
     }
     Ok(())
 }
@@ -193,15 +212,11 @@ fn a_report_that_is_not_written_is_told(rt: HostRuntime) -> Result<(), Fail> {
     let alloc = rt.alloc();
     for (words, store) in [(BESIDE, 3), (ALONE, 2)] {
         let fails = Fails { store, ..SURE };
-        let left = run(alloc, words, &HELLO_AND_BREAK, &EXIT_7_CALL, fails)?;
-        assert_eq!(rt; left.status, 112, "{words:?}");
-        assert_eq!(rt; left.out.as_slice(), "hi\n".as_bytes(), "{words:?}");
-        assert_eq!(rt;
-            left.err.as_slice(),
-            "mssp: store fault r\n".as_bytes(),
+        let wanted = ("hi\n", 112, "mssp: store fault r\n");
+        assert!(rt;
+            no_report_so(alloc, words, &HELLO_AND_BREAK, fails, wanted)?,
             "{words:?}"
         );
-        assert!(rt; left.report.is_empty(), "{words:?}");
     }
     Ok(())
 }
@@ -216,13 +231,6 @@ fn no_report_is_written_behind_a_sink_fault(rt: HostRuntime) -> Result<(), Fail>
     assert_eq!(rt; left.err.as_slice(), "mssp: sink fault\n".as_bytes());
     assert!(rt; left.report.is_empty());
     Ok(())
-}
-
-/// Whether a run left these bytes, this line and this status.
-fn left_so(left: &Left, out: &str, status: u8, line: &str) -> bool {
-    left.status == status
-        && left.out.as_slice() == out.as_bytes()
-        && left.err.as_slice() == line.as_bytes()
 }
 
 /// Whether these programs run beside an image as they run without one.

@@ -1,7 +1,8 @@
 //! `show`, over images that are accepted and refused.
 
+use crate::left::told_so;
 use command_fixtures::outside_world::{Fails, SURE, perform};
-use std::alloc::Global;
+use std::alloc::{AllocError, Global};
 use std::test::Fail;
 use test_programs::images::*;
 use test_programs::programs::bytes_of;
@@ -38,6 +39,18 @@ fn notes_that_are_exchanged_are_refused(rt: HostRuntime) -> Result<(), Fail> {
     Ok(())
 }
 
+/// Whether an image that is made so long leaves this status and line, and a text unless it is refused.
+fn length_so(alloc: Global, length: usize, status: u8, line: &str) -> Result<bool, Fail> {
+    let mut image = written(alloc, &TEN_TURNS)?;
+    image.resize(length, 0)?;
+    let left = perform(alloc, SHOW, image, Vec::new(alloc), SURE)?;
+    Ok(
+        left.status == status
+            && left.err.as_slice() == line.as_bytes()
+            && left.out.is_empty() == (status == 117),
+    )
+}
+
 #[test]
 fn an_image_has_its_length(rt: HostRuntime) -> Result<(), Fail> {
     let alloc = rt.alloc();
@@ -47,25 +60,20 @@ fn an_image_has_its_length(rt: HostRuntime) -> Result<(), Fail> {
         (221, 117, "mssp: image p: long\n"),
     ];
     for (length, status, line) in cases {
-        let mut image = written(alloc, &TEN_TURNS)?;
-        image.resize(length, 0)?;
-        let left = perform(alloc, SHOW, image, Vec::new(alloc), SURE)?;
-        assert_eq!(rt; left.status, status, "{length}");
-        assert_eq!(rt; left.err.as_slice(), line.as_bytes(), "{length}");
-        assert_eq!(rt; left.out.is_empty(), status == 117, "{length}");
+        assert!(rt; length_so(alloc, length, status, line)?, "{length}");
     }
     Ok(())
 }
 
 /// The distilled image with other numbers at some places.
-fn changed(alloc: Global, changes: &[(usize, u32)]) -> Result<Vec<u8>, Fail> {
+fn changed(alloc: Global, changes: &[(usize, u32)]) -> Result<Vec<u8>, AllocError> {
     let mut numbers = COMPARE_NEVER_TRUE;
     for &(place, number) in changes {
         if let Some(old) = numbers.get_mut(place) {
             *old = number;
         }
     }
-    Ok(bytes_of(alloc, &numbers)?)
+    bytes_of(alloc, &numbers)
 }
 
 static A_REFUSED_IMAGE_IS_TOLD_BY_ITS_FIRST_FAULT_CASES: [(&[(usize, u32)], &str); 21] = [
@@ -95,19 +103,34 @@ static A_REFUSED_IMAGE_IS_TOLD_BY_ITS_FIRST_FAULT_CASES: [(&[(usize, u32)], &str
     (&[(6, 5)], "short"),
 ];
 
+/// Whether the distilled image with these changes is refused and tells this of it.
+fn refused_so(alloc: Global, changes: &[(usize, u32)], what: &str) -> Result<bool, AllocError> {
+    let image = changed(alloc, changes)?;
+    let left = perform(alloc, SHOW, image, Vec::new(alloc), SURE)?;
+    let told = format!(in alloc; "image p: {what}")?;
+    told_so(alloc, &left, 0, 117, &told)
+}
+
 #[test]
 fn a_refused_image_is_told_by_its_first_fault(rt: HostRuntime) -> Result<(), Fail> {
     let alloc = rt.alloc();
     // places of numbers, with what is put there
     for &(changes, what) in &A_REFUSED_IMAGE_IS_TOLD_BY_ITS_FIRST_FAULT_CASES {
-        let image = changed(alloc, changes)?;
-        let left = perform(alloc, SHOW, image, Vec::new(alloc), SURE)?;
-        assert_eq!(rt; left.status, 117, "{what}");
-        assert!(rt; left.out.is_empty(), "{what}");
-        let line = format!(in alloc; "mssp: image p: {what}\n")?;
-        assert_eq!(rt; left.err.as_slice(), line.as_bytes());
+        assert!(rt; refused_so(alloc, changes, what)?, "{what}");
     }
     Ok(())
+}
+
+/// Whether the text stops behind so many bytes where these calls fail, and leaves this status and line.
+fn stops_so(alloc: Global, fails: Fails, put: usize, status: u8, line: &str) -> Result<bool, Fail> {
+    let image = written(alloc, &COMPARE_NEVER_TRUE)?;
+    let left = perform(alloc, SHOW, image, Vec::new(alloc), fails)?;
+    Ok(
+        left.status == status
+            && left.err.as_slice() == line.as_bytes()
+            && left.out.len() == put
+            && COMPARE_NEVER_TRUE_TEXT.as_bytes().starts_with(&left.out),
+    )
 }
 
 #[test]
@@ -123,14 +146,11 @@ fn faults_of_the_outside_stop_the_text(rt: HostRuntime) -> Result<(), Fail> {
         ([2, 6, 1], 736, 0, ""),
     ];
     for ([store, out, err], put, status, line) in cases {
-        let image = written(alloc, &COMPARE_NEVER_TRUE)?;
         let fails = Fails { store, out, err };
-        let left = perform(alloc, SHOW, image, Vec::new(alloc), fails)?;
-        assert_eq!(rt; left.status, status, "{store} {out} {err}");
-        assert_eq!(rt; left.err.as_slice(), line.as_bytes());
-        assert_eq!(rt; left.out.len(), put, "{store} {out} {err}");
-        let text = COMPARE_NEVER_TRUE_TEXT.as_bytes();
-        assert!(rt; text.starts_with(&left.out), "{store} {out} {err}");
+        assert!(rt;
+            stops_so(alloc, fails, put, status, line)?,
+            "{store} {out} {err}"
+        );
     }
     Ok(())
 }

@@ -1,12 +1,28 @@
 //! Commands whose bytes and statuses are known from outside.
 
+use crate::left::{left_so, told_so};
 use command_fixtures::outside_world::{Fails, SURE, perform};
+use std::alloc::{AllocError, Global};
 use std::test::Fail;
 use test_programs::programs::*;
 
 const RUN: &[&str] = &["run", "p"];
 
 const RUN_WITH_INPUT: &[&str] = &["run", "p", "--input", "i"];
+
+/// Whether a command over this program and the input `abc` leaves these bytes, this status and this line.
+fn runs_so(
+    alloc: Global,
+    words: &[&str],
+    program: &[u32],
+    out: &str,
+    status: u8,
+    line: &str,
+) -> Result<bool, AllocError> {
+    let input = b"abc".to_vec(alloc)?;
+    let left = perform(alloc, words, frame(alloc, program)?, input, SURE)?;
+    Ok(left_so(&left, out, status, line))
+}
 
 #[test]
 fn runs_to_an_end_or_through_the_budget(rt: HostRuntime) -> Result<(), Fail> {
@@ -79,17 +95,8 @@ fn runs_to_an_end_or_through_the_budget(rt: HostRuntime) -> Result<(), Fail> {
         ),
     ];
     for (words, program, out, status, line) in cases {
-        let input = b"abc".to_vec(alloc)?;
-        let left = perform(alloc, words, frame(alloc, program)?, input, SURE)?;
-        assert_eq!(rt; left.status, status, "{words:?} {program:?}");
-        assert_eq!(rt;
-            left.out.as_slice(),
-            out.as_bytes(),
-            "{words:?} {program:?}"
-        );
-        assert_eq!(rt;
-            left.err.as_slice(),
-            line.as_bytes(),
+        assert!(rt;
+            runs_so(alloc, words, program, out, status, line)?,
             "{words:?} {program:?}"
         );
     }
@@ -139,19 +146,18 @@ static OTHER_WORDS_ARE_NO_COMMAND_CASES: [&[&str]; 28] = [
     &["replay", "p", "m", "e", "--budget", "1"],
 ];
 
+/// Whether these words are told to be no command.
+fn no_command(alloc: Global, words: &[&str]) -> Result<bool, AllocError> {
+    let program = frame(alloc, &HELLO)?;
+    let left = perform(alloc, words, program, Vec::new(alloc), SURE)?;
+    Ok(left_so(&left, "", 110, "mssp: usage\n"))
+}
+
 #[test]
 fn other_words_are_no_command(rt: HostRuntime) -> Result<(), Fail> {
     let alloc = rt.alloc();
     for &words in &OTHER_WORDS_ARE_NO_COMMAND_CASES {
-        let program = frame(alloc, &HELLO)?;
-        let left = perform(alloc, words, program, Vec::new(alloc), SURE)?;
-        assert_eq!(rt; left.status, 110, "{words:?}");
-        assert!(rt; left.out.is_empty(), "{words:?}");
-        assert_eq!(rt;
-            left.err.as_slice(),
-            b"mssp: usage\n".as_slice(),
-            "{words:?}"
-        );
+        assert!(rt; no_command(alloc, words)?, "{words:?}");
     }
     Ok(())
 }
@@ -184,6 +190,27 @@ static A_REFUSED_PROGRAM_IS_TOLD_BY_ITS_FIRST_FAULT_CASES: [(usize, usize, u32, 
     (96, 15, 0xFFFF_EFF4, 121, "trap 00010000 illegal 00000000"),
 ];
 
+/// A program of this length with this word at a place.
+fn changed(alloc: Global, length: usize, place: usize, word: u32) -> Result<Vec<u8>, AllocError> {
+    let mut words = framed(alloc, &EXIT_7)?;
+    if let Some(old) = words.get_mut(place) {
+        *old = word;
+    }
+    let mut program = bytes_of(alloc, &words)?;
+    program.resize(length, 0)?;
+    Ok(program)
+}
+
+/// Whether a command over this program puts nothing and leaves this status, and tells this if it is anything.
+fn refused_so(alloc: Global, program: Vec<u8>, status: u8, what: &str) -> Result<bool, AllocError> {
+    let left = perform(alloc, RUN, program, Vec::new(alloc), SURE)?;
+    if what.is_empty() {
+        Ok(left_so(&left, "", status, ""))
+    } else {
+        told_so(alloc, &left, 0, status, what)
+    }
+}
+
 #[test]
 fn a_refused_program_is_told_by_its_first_fault(rt: HostRuntime) -> Result<(), Fail> {
     let alloc = rt.alloc();
@@ -195,109 +222,132 @@ fn a_refused_program_is_told_by_its_first_fault(rt: HostRuntime) -> Result<(), F
         status,
         what,
     ) in &A_REFUSED_PROGRAM_IS_TOLD_BY_ITS_FIRST_FAULT_CASES {
-        let mut words = framed(alloc, &EXIT_7)?;
-        if let Some(old) = words.get_mut(place) {
-            *old = word;
-        }
-        let mut program = bytes_of(alloc, &words)?;
-        program.resize(length, 0)?;
-        let left = perform(alloc, RUN, program, Vec::new(alloc), SURE)?;
-        let line = if what.is_empty() {
-            String::new(alloc)
-        } else {
-            format!(in alloc; "mssp: {what}\n")?
-        };
-        assert_eq!(rt; left.status, status, "{length} {place} {word:08x}");
-        assert_eq!(rt;
-            left.err.as_slice(),
-            line.as_bytes(),
+        let program = changed(alloc, length, place, word)?;
+        assert!(rt;
+            refused_so(alloc, program, status, what)?,
             "{length} {place} {word:08x}"
         );
-        assert!(rt; left.out.is_empty(), "{length} {place} {word:08x}");
     }
     Ok(())
+}
+
+/// Whether a beginning of this length leaves this status and line.
+fn beginning_so(alloc: Global, length: usize, status: u8, line: &str) -> Result<bool, AllocError> {
+    let mut program = bytes_of(alloc, &THREE_HEADERS)?;
+    program.truncate(length);
+    let left = perform(alloc, RUN, program, Vec::new(alloc), SURE)?;
+    Ok(left.status == status && left.err.as_slice() == line.as_bytes())
 }
 
 #[test]
 fn each_beginning_of_a_file_is_refused(rt: HostRuntime) -> Result<(), Fail> {
     let alloc = rt.alloc();
     for length in 0..=160 {
-        let mut program = bytes_of(alloc, &THREE_HEADERS)?;
-        program.truncate(length);
-        let left = perform(alloc, RUN, program, Vec::new(alloc), SURE)?;
         let (status, line) = match length {
             0..=51 => (116, "mssp: program p: short\n"),
             52..=147 => (116, "mssp: program p: table\n"),
             148..=159 => (116, "mssp: program p: outside 1\n"),
             _ => (7, ""),
         };
-        assert_eq!(rt; left.status, status, "{length}");
-        assert_eq!(rt; left.err.as_slice(), line.as_bytes(), "{length}");
+        assert!(rt; beginning_so(alloc, length, status, line)?, "{length}");
     }
     Ok(())
+}
+
+// the length of the program, which is of zeros where it isn't 96, and of the input
+static FILES_ARE_READ_IN_ORDER_UP_TO_THEIR_LIMITS_CASES: [(&[&str], usize, usize, u8, &str); 7] = [
+    (ABSENT, 96, 0, 111, "mssp: absent nowhere\n"),
+    (NO_INPUT, 96, 0, 111, "mssp: absent naïve file\n"),
+    (NO_INPUT, 95, 0, 116, "mssp: program p: magic\n"),
+    (NO_INPUT, 16_777_217, 0, 115, "mssp: too long p\n"),
+    (RUN, 16_777_216, 0, 116, "mssp: program p: magic\n"),
+    (RUN_WITH_INPUT, 96, 67_108_865, 115, "mssp: too long i\n"),
+    (&["show", "nowhere"], 96, 0, 111, "mssp: absent nowhere\n"),
+];
+
+const ABSENT: &[&str] = &["run", "nowhere"];
+
+const NO_INPUT: &[&str] = &["run", "p", "--input", "naïve file"];
+
+/// Whether a command over files of these lengths puts nothing and leaves this status and line.
+fn lengths_so(
+    alloc: Global,
+    words: &[&str],
+    program: usize,
+    input: usize,
+    status: u8,
+    line: &str,
+) -> Result<bool, AllocError> {
+    let program = if program == 96 {
+        frame(alloc, &EXIT_7)?
+    } else {
+        vec![in alloc; 0u8; program]?
+    };
+    let left = perform(alloc, words, program, vec![in alloc; 0u8; input]?, SURE)?;
+    Ok(left_so(&left, "", status, line))
 }
 
 #[test]
 fn files_are_read_in_order_up_to_their_limits(rt: HostRuntime) -> Result<(), Fail> {
     let alloc = rt.alloc();
-    let absent: &[&str] = &["run", "nowhere"];
-    let no_input: &[&str] = &["run", "p", "--input", "naïve file"];
-    // the length of the program, which is of zeros where it isn't 96, and of the input
-    let cases: [(&[&str], usize, usize, u8, &str); 7] = [
-        (absent, 96, 0, 111, "mssp: absent nowhere\n"),
-        (no_input, 96, 0, 111, "mssp: absent naïve file\n"),
-        (no_input, 95, 0, 116, "mssp: program p: magic\n"),
-        (no_input, 16_777_217, 0, 115, "mssp: too long p\n"),
-        (RUN, 16_777_216, 0, 116, "mssp: program p: magic\n"),
-        (RUN_WITH_INPUT, 96, 67_108_865, 115, "mssp: too long i\n"),
-        (&["show", "nowhere"], 96, 0, 111, "mssp: absent nowhere\n"),
-    ];
-    for (words, program, input, status, line) in cases {
-        let program = if program == 96 {
-            frame(alloc, &EXIT_7)?
-        } else {
-            vec![in alloc; 0u8; program]?
-        };
-        let left = perform(alloc, words, program, vec![in alloc; 0u8; input]?, SURE)?;
-        assert_eq!(rt; left.err.as_slice(), line.as_bytes());
-        assert_eq!(rt; left.status, status, "{line}");
-        assert!(rt; left.out.is_empty(), "{line}");
+    for &(
+        words,
+        program,
+        input,
+        status,
+        line,
+    ) in &FILES_ARE_READ_IN_ORDER_UP_TO_THEIR_LIMITS_CASES {
+        assert!(rt;
+            lengths_so(alloc, words, program, input, status, line)?,
+            "{line}"
+        );
     }
     Ok(())
+}
+
+// the numbers of the calls of the store, the output and the line that fail
+static EACH_FAULT_HAS_ITS_STATUS_AND_LINE_CASES: [(&[&str], [u64; 3], &str, u8, &str); 12] = [
+    (RUN_WITH_INPUT, [1, 0, 0], "", 112, "mssp: store fault p\n"),
+    (RUN_WITH_INPUT, [2, 0, 0], "", 112, "mssp: store fault i\n"),
+    (RUN_WITH_INPUT, [3, 0, 0], "hi\nhi\n", 0, ""),
+    (RUN, [2, 0, 0], "hi\nhi\n", 0, ""),
+    (RUN, [0, 1, 0], "", 113, "mssp: sink fault\n"),
+    (RUN, [0, 2, 0], "hi\n", 113, "mssp: sink fault\n"),
+    (RUN, [0, 3, 0], "hi\nhi\n", 0, ""),
+    (RUN, [1, 1, 0], "", 112, "mssp: store fault p\n"),
+    (RUN, [1, 0, 1], "", 112, ""),
+    (RUN, [0, 2, 1], "hi\n", 113, ""),
+    (RUN, [0, 0, 1], "hi\nhi\n", 0, ""),
+    (&["run"], [1, 1, 1], "", 110, ""),
+];
+
+/// Whether a command over a program that puts two lines leaves this where these calls fail.
+fn faults_so(
+    alloc: Global,
+    words: &[&str],
+    fails: Fails,
+    put: &str,
+    status: u8,
+    line: &str,
+) -> Result<bool, AllocError> {
+    let program = frame(alloc, &HELLO_TWICE)?;
+    let left = perform(alloc, words, program, Vec::new(alloc), fails)?;
+    Ok(left_so(&left, put, status, line))
 }
 
 #[test]
 fn each_fault_has_its_status_and_line(rt: HostRuntime) -> Result<(), Fail> {
     let alloc = rt.alloc();
-    let usage: &[&str] = &["run"];
-    // the numbers of the calls of the store, the output and the line that fail
-    let cases: [(&[&str], [u64; 3], &str, u8, &str); 12] = [
-        (RUN_WITH_INPUT, [1, 0, 0], "", 112, "mssp: store fault p\n"),
-        (RUN_WITH_INPUT, [2, 0, 0], "", 112, "mssp: store fault i\n"),
-        (RUN_WITH_INPUT, [3, 0, 0], "hi\nhi\n", 0, ""),
-        (RUN, [2, 0, 0], "hi\nhi\n", 0, ""),
-        (RUN, [0, 1, 0], "", 113, "mssp: sink fault\n"),
-        (RUN, [0, 2, 0], "hi\n", 113, "mssp: sink fault\n"),
-        (RUN, [0, 3, 0], "hi\nhi\n", 0, ""),
-        (RUN, [1, 1, 0], "", 112, "mssp: store fault p\n"),
-        (RUN, [1, 0, 1], "", 112, ""),
-        (RUN, [0, 2, 1], "hi\n", 113, ""),
-        (RUN, [0, 0, 1], "hi\nhi\n", 0, ""),
-        (usage, [1, 1, 1], "", 110, ""),
-    ];
-    for (words, [store, out, err], put, status, line) in cases {
-        let program = frame(alloc, &HELLO_TWICE)?;
+    for &(
+        words,
+        [store, out, err],
+        put,
+        status,
+        line,
+    ) in &EACH_FAULT_HAS_ITS_STATUS_AND_LINE_CASES {
         let fails = Fails { store, out, err };
-        let left = perform(alloc, words, program, Vec::new(alloc), fails)?;
-        assert_eq!(rt; left.status, status, "{words:?} {store} {out} {err}");
-        assert_eq!(rt;
-            left.out.as_slice(),
-            put.as_bytes(),
-            "{words:?} {store} {out} {err}"
-        );
-        assert_eq!(rt;
-            left.err.as_slice(),
-            line.as_bytes(),
+        assert!(rt;
+            faults_so(alloc, words, fails, put, status, line)?,
             "{words:?} {store} {out} {err}"
         );
     }
