@@ -1,7 +1,9 @@
 //! Images of programs that print, by profiles in which short writes are counted and not.
 
-use crate::programs::{HELLO_ROWS, anchor, options, profile};
-use dist_image::{Image, Slot, write_image};
+use crate::programs::{
+    CALL_AND_EXIT, HELLO_ROWS, anchor, assumes, has_anchors, has_slots, options, profile,
+};
+use dist_image::{Image, write_image};
 use distiller::distill;
 use std::alloc::Global;
 use std::test::Fail;
@@ -141,9 +143,8 @@ fn a_store_that_a_write_shows(rt: HostRuntime) -> Result<(), Fail> {
     assert_eq!(rt; image.writes.as_slice(), [0x1_0018].as_slice());
     assert_eq!(rt; image.slots.len(), 10);
     let anchors = [anchor(0x1_0000, 0, 40), anchor(0x1_001C, 8, 40)];
-    assert_eq!(rt; image.anchors.as_slice(), anchors.as_slice());
-    let listed = format!(in rt.alloc(); "{:?}", image.assumptions)?;
-    assert_eq!(rt; listed.as_str(), "[Code, Within, Span]");
+    assert!(rt; has_anchors(&image, &anchors));
+    assert!(rt; assumes(rt.alloc(), &image, "[Code, Within, Span]")?);
     Ok(())
 }
 
@@ -152,22 +153,13 @@ fn a_write_that_is_not_counted(rt: HostRuntime) -> Result<(), Fail> {
     let image = image_of_store(rt.alloc(), 0, 0)?;
     assert_eq!(rt; (image.version, image.limit), (1, 4096));
     assert!(rt; image.writes.is_empty());
-    let call = Slot::Exec {
-        origin: 0x1_0018,
-        word: 0x73,
-    };
-    let exit = Slot::Exec {
-        origin: 0x1_0024,
-        word: 0x73,
-    };
-    let slots = [
-        Slot::Fork { anchor: 0 },
-        call,
-        Slot::Fork { anchor: 1 },
-        exit,
-    ];
-    assert_eq!(rt; image.slots.as_slice(), slots.as_slice());
-    let listed = format!(in rt.alloc(); "{:?}", image.assumptions)?;
-    assert_eq!(rt; listed.as_str(), "[Dead { at: 65544 }, Code, Within, Span]");
+    assert!(rt; has_slots(&image, &CALL_AND_EXIT));
+    assert!(rt;
+        assumes(
+            rt.alloc(),
+            &image,
+            "[Dead { at: 65544 }, Code, Within, Span]"
+        )?
+    );
     Ok(())
 }

@@ -3,7 +3,7 @@
 ghost use Rattle.std.specs.Prelude.{◌≤◌};
 ghost use Rattle.distiller.specs.Asked.{IsInRange};
 
-use dist_image::Anchor;
+use dist_image::{Anchor, Image, Slot};
 use distiller::Options;
 use profile_data::{Profile, read_profile};
 use std::alloc::{AllocError, Global};
@@ -36,6 +36,20 @@ pub(crate) static HELLO_ROWS: [Counts; 9] = [
     (0x1_0018, 0, 1, 0),
     (0x1_001C, 0, 1, 0),
     (0x1_0020, 0, 1, 0),
+];
+
+/// The call and the exit of `STORE_FOR_WRITE`, each where a task begins.
+pub(crate) static CALL_AND_EXIT: [Slot; 4] = [
+    Slot::Fork { anchor: 0 },
+    Slot::Exec {
+        origin: 0x1_0018,
+        word: 0x73,
+    },
+    Slot::Fork { anchor: 1 },
+    Slot::Exec {
+        origin: 0x1_0024,
+        word: 0x73,
+    },
 ];
 
 /// The bytes of a row, with its targets.
@@ -90,4 +104,20 @@ pub(crate) fn options(limit: u32) -> Options
 /// An anchor by its fields.
 pub(crate) fn anchor(pc: u32, slot: u32, count: u32) -> Anchor {
     Anchor { pc, slot, count }
+}
+
+/// Whether an image has these slots and no other ones.
+pub(crate) fn has_slots(image: &Image, slots: &[Slot]) -> bool {
+    *image.slots.as_slice() == *slots
+}
+
+/// Whether an image has these anchors and no other ones.
+pub(crate) fn has_anchors(image: &Image, anchors: &[Anchor]) -> bool {
+    *image.anchors.as_slice() == *anchors
+}
+
+/// Whether what an image assumes is printed so.
+pub(crate) fn assumes(alloc: Global, image: &Image, listed: &str) -> Result<bool, Fail> {
+    let found = format!(in alloc; "{:?}", image.assumptions)?;
+    Ok(found.as_str() == listed)
 }
