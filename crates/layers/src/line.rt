@@ -215,6 +215,7 @@ impl Line {
     }
 
     /// The least of what was found and the addresses of this line whose byte is recorded and is another one in the second memory.
+    /// A line that is the same in both is passed over at once.
     pub fn least_other<M: Memory>(
         &self,
         number: u32,
@@ -227,6 +228,9 @@ impl Line {
             → IsLeast p done found → IsLeast p (λ q. done q || in_line number q) result }
     {
         if self.read == 0 {
+            return found;
+        }
+        if base.has_same_line(mem, number) {
             return found;
         }
         let mut least = found;

@@ -168,10 +168,11 @@ impl Lines {
     }
 }
 
-// One of 16 kinds of numbers. Neighbours are of different kinds, and so are most numbers that differ by a power of two.
+// One of 16 kinds of numbers: the upper bits of a product by 2³² over the golden ratio, which spreads neighbours, and
+// numbers that differ by a power of two.
 #[inline(always)]
 fn kind(n: u32) -> usize
     ensures { result < 16 }
 {
-    ((n ^ n >> 4 ^ n >> 9) % 16) as usize
+    (n.wrapping_mul(0x9E37_79B1) >> 28) as usize
 }

@@ -175,7 +175,7 @@ impl<M: Memory> View for Overlay<M> {
             return self.word_by_bytes(a);
         }
         match self.kept.lines.look_near(a) {
-            Four::Checkpoint => self.mem.word(a),
+            Four::Checkpoint => self.mem.load_word(a),
             Four::Put(w) => w,
             Four::Both => self.word_in_line(a),
         }
@@ -255,7 +255,7 @@ impl<M: Memory> Overlay<M> {
         ensures write_room { self.new.kept.writes ≡ self.old.kept.writes }
     {
         match self.kept.lines.look_four(place, a) {
-            Four::Checkpoint => self.mem.word(a),
+            Four::Checkpoint => self.mem.load_word(a),
             Four::Put(w) => w,
             Four::Both => self.mixed_word(place, a),
         }

@@ -1,7 +1,8 @@
 //! The memory of a guest: a byte at each 32-bit address, all of them 0 at first.
 #![tactic(auto)]
 
-ghost use Rattle.std.specs.Prelude.{◌≡◌, ℕ, ◌≤◌, ◌%◌, length, IfOk, OnOk, OnErr};
+ghost use Rattle.std.specs.Prelude.{◌≡◌, ℕ, ◌≤◌, ◌<◌, ◌^◌, ◌/◌, ◌%◌, length, IfOk, OnOk, OnErr};
+ghost use Rattle.std.specs.Bool.{OnTrue};
 ghost use Rattle.std.specs.Int.{w16, w32, to_le_bytes};
 ghost use Rattle.cells.specs.Bytes.{number, after_puts};
 
@@ -89,6 +90,12 @@ pub trait Memory: Sized + Drop {
     {
         self.put(alloc, a, &v.to_le_bytes())
     }
+
+    /// Whether the 64 bytes from 64 · `number` on are surely the same in another memory. A memory that would have to look at each
+    /// of them may answer no. Takes no memory.
+    fn has_same_line(&self, other: &Self, number: u32) -> bool
+        requires { number < 2 ^ 26 }
+        ensures { OnTrue result ((q : ℕ) → q / 64 ≡ number → at self.now q ≡ at other.now q) };
 
     /// A memory with the same bytes, which stands apart: a put to either one leaves the other.
     fn snapshot(&self, alloc: Global) -> Result<Self, AllocError>

@@ -208,6 +208,11 @@ impl Memory for PlainMemory {
         self.put_across(a, bytes)
     }
 
+    // No two plain memories share their pages.
+    fn has_same_line(&self, _other: &PlainMemory, _number: u32) -> bool {
+        false
+    }
+
     fn snapshot(&self, alloc: Global) -> Result<Self, AllocError> {
         Ok(PlainMemory {
             directory: self.directory.snapshot(alloc)?,

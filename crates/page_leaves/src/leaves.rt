@@ -466,6 +466,20 @@ impl Leaves {
         }
     }
 
+    /// Whether the 64 bytes from 64 · `number` on are surely the same in two memories: each has a leaf that holds them.
+    pub fn has_same_line(&self, other: &Leaves, number: u32) -> bool
+        requires { number < 2 ^ 26 }
+        ensures { OnTrue result ((q : ℕ) → q / 64 ≡ number → held self.now q ≡ held other.now q) }
+    {
+        let Some(leaf) = self.leaf(number / 4) else {
+            return false;
+        };
+        match other.leaf(number / 4) {
+            Some(other) => other.has_same_line(leaf, (number % 4 * 64) as u8),
+            None => false,
+        }
+    }
+
     /// One more owner of the leaf of a number, if there is a leaf, and no want of memory.
     pub fn owner(&self, number: u32) -> Option<Rc<Node>>
         requires { number < 2 ^ 24 }

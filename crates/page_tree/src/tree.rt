@@ -315,6 +315,11 @@ impl Memory for PageTree {
     }
 
     #[inline(always)]
+    fn has_same_line(&self, other: &PageTree, number: u32) -> bool {
+        self.leaves.has_same_line(&other.leaves, number)
+    }
+
+    #[inline(always)]
     fn put(&mut self, alloc: Global, a: u32, bytes: &[u8]) -> Result<(), AllocError> {
         if (a % 256) as usize + bytes.len() <= 256 && self.write(a, bytes) {
             return Ok(());

@@ -1,5 +1,5 @@
 -- What a node has: a child at each place below 64, or a byte at each place below 256.
-use Rattle.std.specs.Prelude.{ℕ, List, [], ◌++◌, ◌+◌, length, take, drop, Option, Some, None, Bool, true, false, slice_index_or, slice_index}
+use Rattle.std.specs.Prelude.{ℕ, ◌≡◌, ◌≤◌, ◌<◌, List, [], ◌++◌, ◌+◌, length, take, drop, Option, Some, None, Bool, true, false, slice_index_or, slice_index}
 use Rattle.std.specs.Global.{Global}
 use Rattle.std.specs.declared.rc.Rc.{Rc}
 use Rattle.tree_node.specs.declared.node.Children.{Children}
@@ -49,3 +49,7 @@ overwritten xs from bytes = take from xs ++ (bytes ++ drop (from + length bytes)
 -- whether a node has children
 abbrev pub is_inner : Node → Bool
 is_inner n = is_inner_in (out-Node n)
+
+-- a node has these 64 bytes from a place on
+abbrev pub HasLine : Node → ℕ → List ℕ → Type 0
+HasLine n i bytes = (j : ℕ) → i ≤ j → j < i + 64 → byte n j ≡ slice_index bytes j

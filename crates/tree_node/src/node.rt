@@ -3,7 +3,7 @@
 ghost use Rattle.std.specs.Prelude.{◌≡◌, ◌+◌, ◌<◌, ◌≤◌, ◌==◌, if◌then◌else◌, ℕ, None, true, false, IfOk, length, slice_index, slice_index_or, slice_set, option_map};
 ghost use Rattle.std.specs.Bool.{OnTrue, OnFalse};
 ghost use Rattle.cells.specs.Bytes.{number};
-ghost use Rattle.tree_node.specs.Nodes.{owned, child, child_at, byte, bytes_of, is_inner, overwritten};
+ghost use Rattle.tree_node.specs.Nodes.{owned, child, child_at, byte, bytes_of, is_inner, overwritten, HasLine};
 
 use crate::steps::Steps;
 use std::alloc::{AllocError, Global};
@@ -159,6 +159,18 @@ impl Node {
         }
     }
 
+    /// Whether both are leaves with the same 64 bytes from a place on.
+    #[inline(always)]
+    pub fn has_same_line(&self, other: &Node, i: u8) -> bool
+        requires { i + 64 ≤ 256 }
+        ensures { OnTrue result (HasLine other.now i (bytes_of self.now)) }
+    {
+        match self {
+            Node::Inner(_) => false,
+            Node::Leaf(bytes) => has_line(other, i as usize, bytes),
+        }
+    }
+
     /// The number that the two bytes from a place on spell, the low one first. They lie in the leaf.
     #[inline(always)]
     pub fn half(&self, i: u8) -> u16
@@ -239,6 +251,18 @@ impl Node {
                 true
             }
         }
+    }
+}
+
+// Whether a node is a leaf with the same 64 bytes from an index on.
+#[inline(always)]
+fn has_line(node: &Node, i: usize, bytes: &Bytes) -> bool
+    requires { i + 64 ≤ 256 }
+    ensures { OnTrue result (HasLine node.now i bytes.now.at) }
+{
+    match node {
+        Node::Inner(_) => false,
+        Node::Leaf(others) => others.at[i..i + 64] == bytes.at[i..i + 64],
     }
 }
 
