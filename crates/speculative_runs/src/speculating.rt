@@ -50,18 +50,15 @@ pub fn turn(slaves: u8, place: u8) -> Event
     requires place { place < slaves + 7 }
     ensures { slice_get (round slaves) place ≡ Some result }
 {
-    if 6 <= place {
-        if place < slaves + 6 {
-            Event::Slave(place - 6)
-        } else {
-            Event::Commit
-        }
-    } else if 2 <= place {
-        Event::Master
-    } else if place == 1 {
-        Event::Serial
-    } else {
-        Event::Restart
+    let slave = place.wrapping_sub(6);
+    if slave < slaves {
+        return Event::Slave(slave);
+    }
+    match place {
+        0 => Event::Restart,
+        1 => Event::Serial,
+        2 | 3 | 4 | 5 => Event::Master,
+        _ => Event::Commit,
     }
 }
 
@@ -159,6 +156,42 @@ pub fn put_after<O: Sink, M: Memory>(
 /// Gives the pair events until its run has ended or stands at the budget or past it, and puts its
 /// output as it comes.
 fn advance<O: Sink, M: Memory>(
+    alloc: Global,
+    pair: &mut Pair<M>,
+    schedule: Schedule,
+    slaves: u8,
+    budget: u64,
+    out: &mut O,
+) -> Result<(), Answer>
+    requires fresh { model_of M.at pair.old.engine ≡ fresh (world_of M.at pair.old.engine) }
+    requires image { IsImage (image_of pair.old.engine) }
+    requires running { is_over (start_of M.at pair.old.engine) ≡ false }
+    requires silent { (start_of M.at pair.old.engine).env.output ≡ [] }
+    requires slaves { slaves ≡ slaves_of pair.old.engine }
+    requires some { 1 ≤ slaves }
+    requires few { slaves ≤ 64 }
+    requires least { 1 ≤ budget }
+    requires most { budget ≤ 10 ^ 12 }
+    ensures ok { OnOk result (Came (world_of M.at pair.old.engine) (models_of M.at schedule pair.old.engine)
+        budget (model_of M.at pair.new.engine) (O.told out.old) (O.told out.new)) }
+    ensures err { IfErr result (CutShort (world_of M.at pair.old.engine)
+        (models_of M.at schedule pair.old.engine) budget
+        (record {
+          told = O.told out.old;
+          left = O.told out.new;
+          before = O.faults out.old;
+          now = O.faults out.new;
+        })) }
+{
+    match schedule {
+        Schedule::Rounds => advance_by(alloc, pair, Schedule::Rounds, slaves, budget, out),
+        Schedule::Alone => advance_by(alloc, pair, Schedule::Alone, slaves, budget, out),
+    }
+}
+
+// The same, where the schedule is known as this is compiled: no event asks which it is.
+#[inline(always)]
+fn advance_by<O: Sink, M: Memory>(
     alloc: Global,
     pair: &mut Pair<M>,
     schedule: Schedule,

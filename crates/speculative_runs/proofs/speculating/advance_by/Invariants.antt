@@ -4,7 +4,7 @@ use Rattle.outside.specs.Answers.{Gains}
 use Rattle.speculation_schedules.specs.Schedule.{after, has_come}
 use Rattle.engine.specs.Whole.{model_of, world_of, slaves_of}
 use Rattle.speculative_runs.specs.Speculated.{events_of, most}
-use Rattle.speculative_runs.proofs.speculating.advance.Given as goal
+use Rattle.speculative_runs.proofs.speculating.advance_by.Given as goal
 
 abbrev pub invariant-loop-alloc : goal.invariant-loop-alloc
 invariant-loop-alloc g l = record {
