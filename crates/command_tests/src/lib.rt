@@ -1,4 +1,5 @@
-//! Whole runs, from the words of a command to its bytes and its status: runs, replays, reports and images shown.
+//! Whole runs, from the words of a command to its bytes and its status: runs, replays, reports and images
+//! shown.
 #![tactic(auto)]
 
 #[cfg(test)]

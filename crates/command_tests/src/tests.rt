@@ -1,7 +1,7 @@
 //! Commands whose bytes and statuses are known from outside.
 
-use crate::left::{left_so, told_so};
-use command_fixtures::outside_world::{Fails, SURE, perform};
+use crate::left::{leaves_so, set};
+use command_fixtures::outside_world::{Fails, Left, SURE, perform};
 use std::alloc::{AllocError, Global};
 use std::test::Fail;
 use test_programs::programs::*;
@@ -9,6 +9,8 @@ use test_programs::programs::*;
 const RUN: &[&str] = &["run", "p"];
 
 const RUN_WITH_INPUT: &[&str] = &["run", "p", "--input", "i"];
+
+const BUDGET_AND_INPUT: &[&str] = &["run", "p", "--budget", "3", "--input", "i"];
 
 /// Whether a command over this program and the input `abc` leaves these bytes, this status and this line.
 fn runs_so(
@@ -20,98 +22,106 @@ fn runs_so(
     line: &str,
 ) -> Result<bool, AllocError> {
     let input = b"abc".to_vec(alloc)?;
-    let left = perform(alloc, words, frame(alloc, program)?, input, SURE)?;
-    Ok(left_so(&left, out, status, line))
+    let program = frame(alloc, program)?;
+    leaves_so(alloc, words, program, input, SURE, (out, status, line))
+}
+
+/// Whether a run of this program leaves these bytes and this status, and no line.
+fn ends_so(alloc: Global, program: &[u32], out: &str, status: u8) -> Result<bool, AllocError> {
+    runs_so(alloc, RUN, program, out, status, "")
+}
+
+/// Whether a run of this program is told to meet this trap behind these bytes.
+fn traps_so(alloc: Global, program: &[u32], out: &str, line: &str) -> Result<bool, AllocError> {
+    runs_so(alloc, RUN, program, out, 121, line)
+}
+
+/// Whether a run of this program through this budget leaves these bytes.
+fn spends_so(alloc: Global, program: &[u32], budget: &str, out: &str) -> Result<bool, AllocError> {
+    let words = ["run", "p", "--budget", budget];
+    runs_so(alloc, &words, program, out, 120, "mssp: budget\n")
+}
+
+/// Whether programs that end do so.
+fn programs_end(alloc: Global) -> Result<bool, AllocError> {
+    Ok(
+        ends_so(alloc, &HELLO, "hi\n", 0)?
+            && ends_so(alloc, &EXIT_7, "", 7)?
+            && ends_so(alloc, &HELLO_TWICE, "hi\nhi\n", 0)?
+            && ends_so(alloc, &WRAP, "", 2)?
+            && ends_so(alloc, &READ_TWICE, "", 0)?
+            && ends_so(alloc, &EXIT_511, "", 255)?
+            && ends_so(alloc, &EXIT_120, "", 120)?
+            && ends_so(alloc, &EXIT_GROUP, "", 5)?
+            && ends_so(alloc, &UNKNOWN_CALL, "", 218)?
+            && ends_so(alloc, &LOW_BREAK, "", 17)?
+            && ends_so(alloc, &HIGH_BREAK, "", 112)?
+            && ends_so(alloc, &TOO_HIGH_BREAK, "", 17)?,
+    )
+}
+
+/// Whether programs that meet a trap do so.
+fn programs_trap(alloc: Global) -> Result<bool, AllocError> {
+    Ok(
+        traps_so(
+            alloc,
+            &HELLO_AND_BREAK,
+            "hi\n",
+            "mssp: trap 00010018 break\n",
+        )? && traps_so(alloc, &[0x00100073], "", "mssp: trap 00010000 break\n")?
+            && traps_so(alloc, &[0], "", "mssp: trap 00010000 illegal 00000000\n")?
+            && traps_so(
+                alloc,
+                &[0x0000ABCF],
+                "",
+                "mssp: trap 00010000 illegal 0000abcf\n",
+            )?
+            && traps_so(
+                alloc,
+                &MISFETCH,
+                "",
+                "mssp: trap 00010008 misfetch 00010002\n",
+            )?,
+    )
+}
+
+/// Whether programs use up their budget, or end before they have.
+fn budgets_are_kept(alloc: Global) -> Result<bool, AllocError> {
+    Ok(
+        spends_so(alloc, &EXIT_7, "2", "")?
+            && spends_so(alloc, &HELLO, "5", "")?
+            && spends_so(alloc, &HELLO, "6", "hi\n")?
+            && runs_so(alloc, &["run", "p", "--budget", "3"], &EXIT_7, "", 7, "")?
+            && runs_so(alloc, BUDGET_AND_INPUT, &EXIT_7, "", 7, "")?,
+    )
 }
 
 #[test]
 fn runs_to_an_end_or_through_the_budget(rt: HostRuntime) -> Result<(), Fail> {
     let alloc = rt.alloc();
-    let cases: [(&[&str], &[u32], &str, u8, &str); 23] = [
-        (RUN, &HELLO, "hi\n", 0, ""),
-        (RUN, &EXIT_7, "", 7, ""),
-        (&["run", "p", "--budget", "3"], &EXIT_7, "", 7, ""),
-        (
-            &["run", "p", "--budget", "2"],
-            &EXIT_7,
-            "",
-            120,
-            "mssp: budget\n",
-        ),
-        (
-            &["run", "p", "--budget", "5"],
-            &HELLO,
-            "",
-            120,
-            "mssp: budget\n",
-        ),
-        (
-            &["run", "p", "--budget", "6"],
-            &HELLO,
-            "hi\n",
-            120,
-            "mssp: budget\n",
-        ),
-        (RUN, &HELLO_TWICE, "hi\nhi\n", 0, ""),
-        (
-            RUN,
-            &HELLO_AND_BREAK,
-            "hi\n",
-            121,
-            "mssp: trap 00010018 break\n",
-        ),
-        (RUN, &[0x00100073], "", 121, "mssp: trap 00010000 break\n"),
-        (RUN, &[0], "", 121, "mssp: trap 00010000 illegal 00000000\n"),
-        (
-            RUN,
-            &[0x0000ABCF],
-            "",
-            121,
-            "mssp: trap 00010000 illegal 0000abcf\n",
-        ),
-        (
-            RUN,
-            &MISFETCH,
-            "",
-            121,
-            "mssp: trap 00010008 misfetch 00010002\n",
-        ),
-        (RUN, &WRAP, "", 2, ""),
-        (RUN_WITH_INPUT, &READ_TWICE, "", 48, ""),
-        (RUN, &READ_TWICE, "", 0, ""),
-        (RUN, &EXIT_511, "", 255, ""),
-        (RUN, &EXIT_120, "", 120, ""),
-        (RUN, &EXIT_GROUP, "", 5, ""),
-        (RUN, &UNKNOWN_CALL, "", 218, ""),
-        (RUN, &LOW_BREAK, "", 17, ""),
-        (RUN, &HIGH_BREAK, "", 112, ""),
-        (RUN, &TOO_HIGH_BREAK, "", 17, ""),
-        (
-            &["run", "p", "--budget", "3", "--input", "i"],
-            &EXIT_7,
-            "",
-            7,
-            "",
-        ),
-    ];
-    for (words, program, out, status, line) in cases {
-        assert!(rt;
-            runs_so(alloc, words, program, out, status, line)?,
-            "{words:?} {program:?}"
-        );
-    }
+    assert!(rt; programs_end(alloc)?);
+    assert!(rt; programs_trap(alloc)?);
+    assert!(rt; budgets_are_kept(alloc)?);
+    assert!(rt; runs_so(alloc, RUN_WITH_INPUT, &READ_TWICE, "", 48, "")?);
     Ok(())
+}
+
+/// Whether a command left these bytes and the status 1, and no line.
+fn left_all(left: &Left, bytes: &[u8]) -> bool {
+    left.status == 1 && left.out.as_slice() == bytes && left.err.is_empty()
+}
+
+/// Whether 65,536 of the 70,000 zeros that a program asks to write are put, and nothing else.
+fn writes_65_536(alloc: Global) -> Result<bool, AllocError> {
+    let zeros = vec![in alloc; 0u8; 65_536]?;
+    let program = frame(alloc, &WRITE_70_000)?;
+    let left = perform(alloc, RUN, program, Vec::new(alloc), SURE)?;
+    Ok(left_all(&left, &zeros))
 }
 
 #[test]
 fn a_write_takes_65_536_bytes_at_most(rt: HostRuntime) -> Result<(), Fail> {
-    let alloc = rt.alloc();
-    let program = frame(alloc, &WRITE_70_000)?;
-    let left = perform(alloc, RUN, program, Vec::new(alloc), SURE)?;
-    assert_eq!(rt; left.status, 1);
-    assert_eq!(rt; left.out.len(), 65_536);
-    assert!(rt; left.out.iter().all(|&byte| byte == 0));
-    assert!(rt; left.err.is_empty());
+    assert!(rt; writes_65_536(rt.alloc())?);
     Ok(())
 }
 
@@ -149,8 +159,14 @@ static OTHER_WORDS_ARE_NO_COMMAND_CASES: [&[&str]; 28] = [
 /// Whether these words are told to be no command.
 fn no_command(alloc: Global, words: &[&str]) -> Result<bool, AllocError> {
     let program = frame(alloc, &HELLO)?;
-    let left = perform(alloc, words, program, Vec::new(alloc), SURE)?;
-    Ok(left_so(&left, "", 110, "mssp: usage\n"))
+    leaves_so(
+        alloc,
+        words,
+        program,
+        Vec::new(alloc),
+        SURE,
+        ("", 110, "mssp: usage\n"),
+    )
 }
 
 #[test]
@@ -163,52 +179,72 @@ fn other_words_are_no_command(rt: HostRuntime) -> Result<(), Fail> {
 }
 
 static A_REFUSED_PROGRAM_IS_TOLD_BY_ITS_FIRST_FAULT_CASES: [(usize, usize, u32, u8, &str); 25] = [
-    (0, 0, 0x464C457F, 116, "program p: short"),
-    (51, 0, 0x464C457F, 116, "program p: short"),
-    (96, 0, 0x464C4500, 116, "program p: magic"),
-    (96, 1, 0x00010102, 116, "program p: class"),
-    (96, 1, 0x00010201, 116, "program p: endian"),
-    (96, 1, 0x00020101, 116, "program p: version"),
-    (96, 4, 0x00F30003, 116, "program p: kind"),
-    (96, 4, 0x00F40002, 116, "program p: machine"),
-    (96, 9, 1, 116, "program p: flags"),
+    (0, 0, 0x464C457F, 116, "mssp: program p: short\n"),
+    (51, 0, 0x464C457F, 116, "mssp: program p: short\n"),
+    (96, 0, 0x464C4500, 116, "mssp: program p: magic\n"),
+    (96, 1, 0x00010102, 116, "mssp: program p: class\n"),
+    (96, 1, 0x00010201, 116, "mssp: program p: endian\n"),
+    (96, 1, 0x00020101, 116, "mssp: program p: version\n"),
+    (96, 4, 0x00F30003, 116, "mssp: program p: kind\n"),
+    (96, 4, 0x00F40002, 116, "mssp: program p: machine\n"),
+    (96, 9, 1, 116, "mssp: program p: flags\n"),
     (96, 9, 16, 7, ""),
-    (96, 6, 0x00010002, 116, "program p: entry"),
-    (83, 9, 0, 116, "program p: table"),
-    (96, 10, 0x00210034, 116, "program p: table"),
-    (96, 7, 65, 116, "program p: table"),
-    (96, 11, 65, 116, "program p: table"),
-    (2_132, 11, 65, 116, "program p: too many"),
+    (96, 6, 0x00010002, 116, "mssp: program p: entry\n"),
+    (83, 9, 0, 116, "mssp: program p: table\n"),
+    (96, 10, 0x00210034, 116, "mssp: program p: table\n"),
+    (96, 7, 65, 116, "mssp: program p: table\n"),
+    (96, 11, 65, 116, "mssp: program p: table\n"),
+    (2_132, 11, 65, 116, "mssp: program p: too many\n"),
     (2_100, 11, 64, 7, ""),
-    (96, 13, 3, 116, "program p: interp"),
-    (84, 9, 0, 116, "program p: outside 0"),
-    (95, 9, 0, 116, "program p: outside 0"),
-    (96, 14, 85, 116, "program p: outside 0"),
-    (96, 18, 11, 116, "program p: larger 0"),
-    (96, 18, 0xFFFE_F001, 116, "program p: wraps 0"),
+    (96, 13, 3, 116, "mssp: program p: interp\n"),
+    (84, 9, 0, 116, "mssp: program p: outside 0\n"),
+    (95, 9, 0, 116, "mssp: program p: outside 0\n"),
+    (96, 14, 85, 116, "mssp: program p: outside 0\n"),
+    (96, 18, 11, 116, "mssp: program p: larger 0\n"),
+    (96, 18, 0xFFFE_F001, 116, "mssp: program p: wraps 0\n"),
     (96, 18, 0xFFFE_F000, 7, ""),
-    (96, 15, 0xFFFF_EFF4, 121, "trap 00010000 illegal 00000000"),
+    (
+        96,
+        15,
+        0xFFFF_EFF4,
+        121,
+        "mssp: trap 00010000 illegal 00000000\n",
+    ),
 ];
+
+/// The words of a program with this word at a place.
+fn with_word(alloc: Global, place: usize, word: u32) -> Result<Vec<u32>, AllocError> {
+    let mut words = framed(alloc, &EXIT_7)?;
+    set(&mut words, place, word);
+    Ok(words)
+}
 
 /// A program of this length with this word at a place.
 fn changed(alloc: Global, length: usize, place: usize, word: u32) -> Result<Vec<u8>, AllocError> {
-    let mut words = framed(alloc, &EXIT_7)?;
-    if let Some(old) = words.get_mut(place) {
-        *old = word;
-    }
+    let words = with_word(alloc, place, word)?;
     let mut program = bytes_of(alloc, &words)?;
     program.resize(length, 0)?;
     Ok(program)
 }
 
-/// Whether a command over this program puts nothing and leaves this status, and tells this if it is anything.
-fn refused_so(alloc: Global, program: Vec<u8>, status: u8, what: &str) -> Result<bool, AllocError> {
-    let left = perform(alloc, RUN, program, Vec::new(alloc), SURE)?;
-    if what.is_empty() {
-        Ok(left_so(&left, "", status, ""))
-    } else {
-        told_so(alloc, &left, 0, status, what)
-    }
+/// Whether a run of that program puts nothing and leaves this status and line.
+fn refused_so(
+    alloc: Global,
+    length: usize,
+    place: usize,
+    word: u32,
+    status: u8,
+    line: &str,
+) -> Result<bool, AllocError> {
+    let program = changed(alloc, length, place, word)?;
+    leaves_so(
+        alloc,
+        RUN,
+        program,
+        Vec::new(alloc),
+        SURE,
+        ("", status, line),
+    )
 }
 
 #[test]
@@ -220,23 +256,28 @@ fn a_refused_program_is_told_by_its_first_fault(rt: HostRuntime) -> Result<(), F
         place,
         word,
         status,
-        what,
+        line,
     ) in &A_REFUSED_PROGRAM_IS_TOLD_BY_ITS_FIRST_FAULT_CASES {
-        let program = changed(alloc, length, place, word)?;
         assert!(rt;
-            refused_so(alloc, program, status, what)?,
+            refused_so(alloc, length, place, word, status, line)?,
             "{length} {place} {word:08x}"
         );
     }
     Ok(())
 }
 
-/// Whether a beginning of this length leaves this status and line.
+/// Whether a beginning of this length puts nothing and leaves this status and line.
 fn beginning_so(alloc: Global, length: usize, status: u8, line: &str) -> Result<bool, AllocError> {
     let mut program = bytes_of(alloc, &THREE_HEADERS)?;
     program.truncate(length);
-    let left = perform(alloc, RUN, program, Vec::new(alloc), SURE)?;
-    Ok(left.status == status && left.err.as_slice() == line.as_bytes())
+    leaves_so(
+        alloc,
+        RUN,
+        program,
+        Vec::new(alloc),
+        SURE,
+        ("", status, line),
+    )
 }
 
 #[test]
@@ -269,6 +310,14 @@ const ABSENT: &[&str] = &["run", "nowhere"];
 
 const NO_INPUT: &[&str] = &["run", "p", "--input", "naïve file"];
 
+/// A program of this length.
+fn program_of(alloc: Global, length: usize) -> Result<Vec<u8>, AllocError> {
+    if length == 96 {
+        return frame(alloc, &EXIT_7);
+    }
+    vec![in alloc; 0u8; length]
+}
+
 /// Whether a command over files of these lengths puts nothing and leaves this status and line.
 fn lengths_so(
     alloc: Global,
@@ -278,13 +327,9 @@ fn lengths_so(
     status: u8,
     line: &str,
 ) -> Result<bool, AllocError> {
-    let program = if program == 96 {
-        frame(alloc, &EXIT_7)?
-    } else {
-        vec![in alloc; 0u8; program]?
-    };
-    let left = perform(alloc, words, program, vec![in alloc; 0u8; input]?, SURE)?;
-    Ok(left_so(&left, "", status, line))
+    let program = program_of(alloc, program)?;
+    let input = vec![in alloc; 0u8; input]?;
+    leaves_so(alloc, words, program, input, SURE, ("", status, line))
 }
 
 #[test]
@@ -331,8 +376,14 @@ fn faults_so(
     line: &str,
 ) -> Result<bool, AllocError> {
     let program = frame(alloc, &HELLO_TWICE)?;
-    let left = perform(alloc, words, program, Vec::new(alloc), fails)?;
-    Ok(left_so(&left, put, status, line))
+    leaves_so(
+        alloc,
+        words,
+        program,
+        Vec::new(alloc),
+        fails,
+        (put, status, line),
+    )
 }
 
 #[test]

@@ -1,136 +1,72 @@
 //! Runs that adapt: an image is made anew of the run so far.
 
-use crate::distilled::text_of;
-use command_fixtures::outside_world::{SURE, perform};
+use crate::commands::{left_so, reported_so};
+use command_fixtures::outside_world::{Left, SURE, perform};
 use std::alloc::{AllocError, Global};
 use std::test::Fail;
 use test_programs::programs::*;
 
-/// The options of a run that adapts, and what it comes to.
-struct Case {
-    /// After how many steps an image is due, the number of slaves, and the budget.
-    options: [&'static str; 3],
-    status: u8,
-    /// The lines of the report in their order, but for those of squashes, of which there are none.
-    report: [&'static str; 6],
+/// Performs a command over a program alone.
+fn run(alloc: Global, words: &[&str], program: &[u32]) -> Result<Left, AllocError> {
+    perform(alloc, words, frame(alloc, program)?, Vec::new(alloc), SURE)
 }
 
-// One for each program of the test, in its order.
+/// The options of a run that adapts, which are after how many steps an image is due, the number of slaves,
+/// and the budget; its status, and its report.
+type Case = ([&'static str; 3], u8, &'static str);
+
+/// One for each program of the test, in its order.
 static CASES: [Case; 8] = [
-    Case {
-        options: ["5", "4", "1000"],
-        status: 0,
-        report: [
-            "position 24",
-            "tasks 1",
-            "by-tasks 18",
-            "serial 6",
-            "end exit 0",
-            "output 0",
-        ],
-    },
-    Case {
-        options: ["1", "4", "1000"],
-        status: 0,
-        report: [
-            "position 24",
-            "tasks 1",
-            "by-tasks 18",
-            "serial 6",
-            "end exit 0",
-            "output 0",
-        ],
-    },
-    Case {
-        options: ["1", "4", "1000"],
-        status: 7,
-        report: [
-            "position 3",
-            "tasks 0",
-            "by-tasks 0",
-            "serial 3",
-            "end exit 7",
-            "output 0",
-        ],
-    },
-    Case {
-        options: ["7", "4", "1000"],
-        status: 0,
-        report: [
-            "position 45",
-            "tasks 1",
-            "by-tasks 35",
-            "serial 10",
-            "end exit 0",
-            "output 0",
-        ],
-    },
-    Case {
-        options: ["50", "4", "500"],
-        status: 120,
-        report: [
-            "position 565",
-            "tasks 2",
-            "by-tasks 512",
-            "serial 53",
-            "end none",
-            "output 0",
-        ],
-    },
-    Case {
-        options: ["50", "1", "500"],
-        status: 120,
-        report: [
-            "position 565",
-            "tasks 2",
-            "by-tasks 512",
-            "serial 53",
-            "end none",
-            "output 0",
-        ],
-    },
-    Case {
-        options: ["20", "4", "1000"],
-        status: 0,
-        report: [
-            "position 74",
-            "tasks 1",
-            "by-tasks 53",
-            "serial 21",
-            "end exit 0",
-            "output 10",
-        ],
-    },
-    Case {
-        options: ["2", "4", "1000"],
-        status: 9,
-        report: [
-            "position 6",
-            "tasks 0",
-            "by-tasks 0",
-            "serial 6",
-            "end exit 9",
-            "output 0",
-        ],
-    },
+    (
+        ["5", "4", "1000"],
+        0,
+        "position 24\ntasks 1\nby-tasks 18\nserial 6\nsquashed 0\ndropped 0\nend exit 0\noutput 0\n",
+    ),
+    (
+        ["1", "4", "1000"],
+        0,
+        "position 24\ntasks 1\nby-tasks 18\nserial 6\nsquashed 0\ndropped 0\nend exit 0\noutput 0\n",
+    ),
+    (
+        ["1", "4", "1000"],
+        7,
+        "position 3\ntasks 0\nby-tasks 0\nserial 3\nsquashed 0\ndropped 0\nend exit 7\noutput 0\n",
+    ),
+    (
+        ["7", "4", "1000"],
+        0,
+        "position 45\ntasks 1\nby-tasks 35\nserial 10\nsquashed 0\ndropped 0\nend exit 0\noutput 0\n",
+    ),
+    (
+        ["50", "4", "500"],
+        120,
+        "position 565\ntasks 2\nby-tasks 512\nserial 53\nsquashed 0\ndropped 0\nend none\noutput 0\n",
+    ),
+    (
+        ["50", "1", "500"],
+        120,
+        "position 565\ntasks 2\nby-tasks 512\nserial 53\nsquashed 0\ndropped 0\nend none\noutput 0\n",
+    ),
+    (
+        ["20", "4", "1000"],
+        0,
+        "position 74\ntasks 1\nby-tasks 53\nserial 21\nsquashed 0\ndropped 0\nend exit 0\noutput 10\n",
+    ),
+    (
+        ["2", "4", "1000"],
+        9,
+        "position 6\ntasks 0\nby-tasks 0\nserial 6\nsquashed 0\ndropped 0\nend exit 9\noutput 0\n",
+    ),
 ];
 
-// The text of a report of a run in which nothing was squashed.
-fn report_of(alloc: Global, lines: &[&str; 6]) -> Result<Vec<u8>, AllocError> {
-    let [position, tasks, by_tasks, serial, end, output] = *lines;
-    text_of(
-        alloc,
-        &[
-            (position, 1),
-            (tasks, 1),
-            (by_tasks, 1),
-            (serial, 1),
-            ("squashed 0", 1),
-            ("dropped 0", 1),
-            (end, 1),
-            (output, 1),
-        ],
-    )
+/// Whether a run of a program that adapts by the options of a case comes to what it says.
+fn adapts_so(alloc: Global, program: &[u32], case: &Case) -> Result<bool, AllocError> {
+    let ([every, slaves, budget], status, report) = *case;
+    let words = [
+        "run", "p", "--adapt", every, "--slaves", slaves, "--budget", budget, "--report", "r",
+    ];
+    let left = run(alloc, &words, program)?;
+    Ok(reported_so(&left, status, report.as_bytes()))
 }
 
 #[test]
@@ -147,43 +83,41 @@ fn an_image_is_made_of_the_run_so_far(rt: HostRuntime) -> Result<(), Fail> {
         &REWRITES_ITSELF,
     ];
     for (program, case) in programs.iter().zip(&CASES) {
-        let [every, slaves, budget] = case.options;
-        let words = [
-            "run", "p", "--adapt", every, "--slaves", slaves, "--budget", budget, "--report", "r",
-        ];
-        let program = frame(alloc, program)?;
-        let left = perform(alloc, &words, program, Vec::new(alloc), SURE)?;
-        let want = report_of(alloc, &case.report)?;
-        assert_eq!(rt; left.report.as_slice(), want.as_slice());
-        assert_eq!(rt; left.status, case.status);
+        assert!(rt; adapts_so(alloc, program, case)?, "{:?}", case.0);
     }
     Ok(())
 }
 
+/// Whether a run that adapts leaves the ten bytes that its program prints.
+fn prints_ten(alloc: Global) -> Result<bool, AllocError> {
+    let words = ["run", "p", "--adapt", "20", "--report", "r"];
+    let left = run(alloc, &words, &PRINTS_TEN)?;
+    Ok(left_so(&left, &[0x93; 10], 0, ""))
+}
+
 #[test]
 fn tasks_of_a_run_that_adapts_print(rt: HostRuntime) -> Result<(), Fail> {
-    let alloc = rt.alloc();
-    let words = ["run", "p", "--adapt", "20", "--report", "r"];
-    let program = frame(alloc, &PRINTS_TEN)?;
-    let left = perform(alloc, &words, program, Vec::new(alloc), SURE)?;
-    assert_eq!(rt; left.out.as_slice(), [0x93; 10].as_slice());
-    assert!(rt; left.err.is_empty());
+    assert!(rt; prints_ten(rt.alloc())?);
     Ok(())
+}
+
+static NO_COMMANDS: [&[&str]; 3] = [
+    &["run", "p", "--adapt", "5"],
+    &["run", "p", "--adapt", "0", "--report", "r"],
+    &["run", "p", "--adapt", "1000000001", "--report", "r"],
+];
+
+/// Whether these words are told to be no command.
+fn is_no_command(alloc: Global, words: &[&str]) -> Result<bool, AllocError> {
+    let left = run(alloc, words, &TEN_TURNS_LOOP)?;
+    Ok(left_so(&left, b"", 110, "mssp: usage\n"))
 }
 
 #[test]
 fn a_run_that_adapts_asks_for_a_report(rt: HostRuntime) -> Result<(), Fail> {
     let alloc = rt.alloc();
-    let cases: [&[&str]; 3] = [
-        &["run", "p", "--adapt", "5"],
-        &["run", "p", "--adapt", "0", "--report", "r"],
-        &["run", "p", "--adapt", "1000000001", "--report", "r"],
-    ];
-    for words in cases {
-        let program = frame(alloc, &TEN_TURNS_LOOP)?;
-        let left = perform(alloc, words, program, Vec::new(alloc), SURE)?;
-        assert_eq!(rt; left.status, 110);
-        assert_eq!(rt; left.err.as_slice(), b"mssp: usage\n".as_slice());
+    for &words in &NO_COMMANDS {
+        assert!(rt; is_no_command(alloc, words)?, "{words:?}");
     }
     Ok(())
 }

@@ -1,99 +1,101 @@
 //! `certify`: whether an image fits, and which rule it breaks first.
 
+use crate::commands::{files, left_so, set};
 use crate::printing::image_of;
-use command_fixtures::outside_world::{Fails, Files, Left, SURE, perform_over};
+use command_fixtures::outside_world::{Fails, Left, SURE, perform_over};
 use std::alloc::{AllocError, Global};
 use std::test::Fail;
 use test_programs::images::*;
 use test_programs::programs::*;
 
-fn certify(
-    alloc: Global,
-    program: &[u32],
-    image: Vec<u8>,
-    fails: Fails,
-) -> Result<Left, AllocError> {
-    let files = Files {
-        program: frame(alloc, program)?,
-        image,
-        events: Vec::new(alloc),
-        input: Vec::new(alloc),
-    };
+fn certify(alloc: Global, program: &[u32], image: &[u8], fails: Fails) -> Result<Left, AllocError> {
+    let files = files(alloc, program, image, b"", b"")?;
     perform_over(alloc, &["certify", "p", "m"], files, fails)
 }
 
+/// Whether an image of these bytes is certified by this answer and status.
+fn certified_so(
+    alloc: Global,
+    program: &[u32],
+    image: &[u8],
+    answer: &str,
+    status: u8,
+) -> Result<bool, AllocError> {
+    let left = certify(alloc, program, image, SURE)?;
+    Ok(left_so(&left, answer.as_bytes(), status, ""))
+}
+
+/// Whether an image of these words is.
+fn words_certified_so(
+    alloc: Global,
+    program: &[u32],
+    image: &[u32],
+    answer: &str,
+    status: u8,
+) -> Result<bool, AllocError> {
+    let image = bytes_of(alloc, image)?;
+    certified_so(alloc, program, &image, answer, status)
+}
+
+/// Whether the image of the compare that is never true breaks rule 7 where nothing is needed at 0x0001000C.
+fn a_need_is_missed(alloc: Global) -> Result<bool, AllocError> {
+    let mut words = COMPARE_NEVER_TRUE.to_vec(alloc)?;
+    set(&mut words, 49, 0);
+    words_certified_so(alloc, &COMPARE_LOOP, &words, "unfit 0001000c rule 7\n", 1)
+}
+
 /// The image of the compare that is never true, without the branch's cut side.
-fn without_its_cut(alloc: Global) -> Result<Vec<u8>, AllocError> {
-    let mut words = Vec::new(alloc);
-    for (place, word) in COMPARE_NEVER_TRUE.iter().enumerate() {
-        match place {
-            6 => words.push(3)?,
-            70..=73 => {}
-            _ => words.push(*word)?,
-        }
-    }
-    bytes_of(alloc, &words)
+fn without_its_cut(alloc: Global) -> Result<Vec<u32>, AllocError> {
+    let mut words = COMPARE_NEVER_TRUE[..70].to_vec(alloc)?;
+    words.extend_from_slice(&COMPARE_NEVER_TRUE[74..])?;
+    set(&mut words, 6, 3);
+    Ok(words)
+}
+
+/// Whether that image breaks rule 4.
+fn a_cut_is_missed(alloc: Global) -> Result<bool, AllocError> {
+    let words = without_its_cut(alloc)?;
+    words_certified_so(alloc, &COMPARE_LOOP, &words, "unfit 00010008 rule 4\n", 1)
+}
+
+/// Whether the image that is made of a program that prints fits it.
+fn a_made_image_fits(alloc: Global) -> Result<bool, AllocError> {
+    let image = image_of(alloc, &HELLO, "1")?;
+    certified_so(alloc, &HELLO, &image, "fits\n", 0)
 }
 
 #[test]
 fn images_fit_or_break_a_rule(rt: HostRuntime) -> Result<(), Fail> {
     let alloc = rt.alloc();
-    // what is needed at 0x0001000C
-    let mut needless = COMPARE_NEVER_TRUE;
-    needless[49] = 0;
-    let cases: [(&[u32], Vec<u8>, &str, u8); 5] = [
-        (
-            &COMPARE_LOOP,
-            bytes_of(alloc, &COMPARE_NEVER_TRUE)?,
-            "fits\n",
-            0,
-        ),
-        (
-            &TEN_TURNS_LOOP,
-            bytes_of(alloc, &TEN_TURNS)?,
-            "unfit 00000000 rule 1\n",
-            1,
-        ),
-        (
-            &COMPARE_LOOP,
-            bytes_of(alloc, &needless)?,
-            "unfit 0001000c rule 7\n",
-            1,
-        ),
-        (
-            &COMPARE_LOOP,
-            without_its_cut(alloc)?,
-            "unfit 00010008 rule 4\n",
-            1,
-        ),
-        (&HELLO, image_of(alloc, &HELLO, "1")?, "fits\n", 0),
-    ];
-    for (program, image, line, status) in cases {
-        let left = certify(alloc, program, image, SURE)?;
-        assert_eq!(rt; left.out.as_slice(), line.as_bytes());
-        assert_eq!(rt; left.status, status, "{line}");
-        assert!(rt; left.err.is_empty());
-    }
+    assert!(rt; words_certified_so(alloc, &COMPARE_LOOP, &COMPARE_NEVER_TRUE, "fits\n", 0)?);
+    let answer = "unfit 00000000 rule 1\n";
+    assert!(rt; words_certified_so(alloc, &TEN_TURNS_LOOP, &TEN_TURNS, answer, 1)?);
+    assert!(rt; a_need_is_missed(alloc)?);
+    assert!(rt; a_cut_is_missed(alloc)?);
+    assert!(rt; a_made_image_fits(alloc)?);
     Ok(())
+}
+
+/// Whether a command where these calls fail leaves this status and line.
+fn faults_so(
+    alloc: Global,
+    store: u64,
+    out: u64,
+    status: u8,
+    line: &str,
+) -> Result<bool, AllocError> {
+    let image = bytes_of(alloc, &COMPARE_NEVER_TRUE)?;
+    let left = certify(alloc, &COMPARE_LOOP, &image, Fails { store, out, err: 0 })?;
+    Ok(left_so(&left, b"", status, line))
 }
 
 #[test]
 fn refusals_and_faults_of_certify_are_told(rt: HostRuntime) -> Result<(), Fail> {
     let alloc = rt.alloc();
-    let cases = [
-        (1, 0, 112, "mssp: store fault p\n"),
-        (2, 0, 112, "mssp: store fault m\n"),
-        (0, 1, 113, "mssp: sink fault\n"),
-    ];
-    for (store, out, status, line) in cases {
-        let fails = Fails { store, out, err: 0 };
-        let image = bytes_of(alloc, &COMPARE_NEVER_TRUE)?;
-        let left = certify(alloc, &COMPARE_LOOP, image, fails)?;
-        assert_eq!(rt; left.status, status);
-        assert_eq!(rt; left.err.as_slice(), line.as_bytes());
-    }
-    let left = certify(alloc, &COMPARE_LOOP, b"MSSP".to_vec(alloc)?, SURE)?;
-    assert_eq!(rt; left.status, 117);
-    assert_eq!(rt; left.err.as_slice(), b"mssp: image m: short\n".as_slice());
+    assert!(rt; faults_so(alloc, 1, 0, 112, "mssp: store fault p\n")?);
+    assert!(rt; faults_so(alloc, 2, 0, 112, "mssp: store fault m\n")?);
+    assert!(rt; faults_so(alloc, 0, 1, 113, "mssp: sink fault\n")?);
+    let left = certify(alloc, &COMPARE_LOOP, b"MSSP", SURE)?;
+    assert!(rt; left_so(&left, b"", 117, "mssp: image m: short\n"));
     Ok(())
 }

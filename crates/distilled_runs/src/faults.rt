@@ -1,6 +1,7 @@
 //! Faults of the store: each of a command's calls fails once, and its line names the file of that call.
 
-use command_fixtures::outside_world::{Fails, Files, SURE, perform_over};
+use crate::commands::{files, store_fault_so, told_so};
+use command_fixtures::outside_world::{Fails, Left, SURE, perform_over};
 use std::alloc::{AllocError, Global};
 use std::test::Fail;
 use test_programs::images::*;
@@ -29,39 +30,48 @@ static CALLS: [(&[&str], &[&str]); 11] = [
     (&["profile", "p", "r", "--calls", "1"], &["p", "r"]),
 ];
 
-fn files(alloc: Global, words: &[&str]) -> Result<Files, AllocError> {
-    let image: &[u32] = match words {
+/// The numbers of the file `m` of the command of these words.
+fn numbers_of(words: &[&str]) -> &'static [u32] {
+    match words {
         ["distill", ..] => &COMPARE_LOOP_PROFILE,
         _ => &COMPARE_NEVER_TRUE,
-    };
-    Ok(Files {
-        program: frame(alloc, &COMPARE_LOOP)?,
-        image: bytes_of(alloc, image)?,
-        events: b"1 serial\n".to_vec(alloc)?,
-        input: Vec::new(alloc),
-    })
+    }
+}
+
+/// Performs the command of these words, where this call of the store fails.
+fn fault(alloc: Global, words: &[&str], store: u64) -> Result<Left, AllocError> {
+    let image = bytes_of(alloc, numbers_of(words))?;
+    let files = files(alloc, &COMPARE_LOOP, &image, b"1 serial\n", b"")?;
+    perform_over(alloc, words, files, Fails { store, ..SURE })
+}
+
+/// Whether a fault of that call is told by this file's name.
+fn told_by(alloc: Global, words: &[&str], store: u64, name: &str) -> Result<bool, AllocError> {
+    let left = fault(alloc, words, store)?;
+    store_fault_so(alloc, &left, name)
+}
+
+/// Whether each call, of which there are as many as names, is told by its file's name.
+fn each_is_told(alloc: Global, words: &[&str], names: &[&str]) -> Result<bool, AllocError> {
+    let mut told = true;
+    for (place, name) in names.iter().enumerate() {
+        told = told && told_by(alloc, words, place as u64 + 1, name)?;
+    }
+    Ok(told)
+}
+
+/// Whether there is no call of that number, so that nothing fails.
+fn no_call(alloc: Global, words: &[&str], store: u64) -> Result<bool, AllocError> {
+    let left = fault(alloc, words, store)?;
+    Ok(told_so(&left, 0, ""))
 }
 
 #[test]
 fn each_call_of_the_store_is_told_by_its_file(rt: HostRuntime) -> Result<(), Fail> {
     let alloc = rt.alloc();
     for &(words, names) in &CALLS {
-        for (place, name) in names.iter().enumerate() {
-            let fails = Fails {
-                store: place as u64 + 1,
-                ..SURE
-            };
-            let left = perform_over(alloc, words, files(alloc, words)?, fails)?;
-            let line = format!(in alloc; "mssp: store fault {name}\n")?;
-            let told = (left.status, left.err.as_slice(), left.report.is_empty());
-            assert_eq!(rt; told, (112, line.as_bytes(), true), "{words:?} {name}");
-        }
-        let fails = Fails {
-            store: names.len() as u64 + 1,
-            ..SURE
-        };
-        let left = perform_over(alloc, words, files(alloc, words)?, fails)?;
-        assert_eq!(rt; (left.status, left.err.is_empty()), (0, true), "{words:?}");
+        assert!(rt; each_is_told(alloc, words, names)?, "{words:?}");
+        assert!(rt; no_call(alloc, words, names.len() as u64 + 1)?, "{words:?}");
     }
     Ok(())
 }

@@ -1,23 +1,12 @@
 //! Images that mean no good, event by event, and an output that tears.
 
-use command_fixtures::outside_world::{Fails, Files, SURE, perform_over, perform_torn};
+use crate::commands::{Line, REPLAY, files, left_so, replays_so, told_so};
+use command_fixtures::outside_world::{Fails, Files, Left, SURE, perform_over, perform_torn};
 use std::alloc::{AllocError, Global};
 use std::test::Fail;
 use test_programs::hostile_images::*;
 use test_programs::images::*;
 use test_programs::programs::*;
-
-/// The loop of ten turns, with an image and a list of events.
-fn files(alloc: Global, image: &[u32], events: &str) -> Result<Files, AllocError> {
-    Ok(Files {
-        program: frame(alloc, &TEN_TURNS_LOOP)?,
-        image: bytes_of(alloc, image)?,
-        events: events.as_bytes().to_vec(alloc)?,
-        input: Vec::new(alloc),
-    })
-}
-
-const REPLAY: &[&str] = &["replay", "p", "m", "e"];
 
 const SPENT_EVENTS: &str = "1 serial
 1 restart
@@ -27,33 +16,38 @@ const SPENT_EVENTS: &str = "1 serial
 1 restart
 ";
 
-const SPENT_END: &str = "halted spent
-stepped
-done reached
-committed 2 dropped 0
-idle
-position 3
-tasks 1
-by-tasks 2
-serial 1
-squashed 0
-dropped 0
-end none
-output 0
-";
+/// What is put of them.
+static SPENT: [Line; 16] = [
+    ("stepped", 1),
+    ("started 00010004", 1),
+    ("moved", 68),
+    ("halted spent", 1),
+    ("stepped", 1),
+    ("done reached", 1),
+    ("committed 2 dropped 0", 1),
+    ("idle", 1),
+    ("position 3", 1),
+    ("tasks 1", 1),
+    ("by-tasks 2", 1),
+    ("serial 1", 1),
+    ("squashed 0", 1),
+    ("dropped 0", 1),
+    ("end none", 1),
+    ("output 0", 1),
+];
 
 #[test]
 fn a_master_that_never_forks_is_spent(rt: HostRuntime) -> Result<(), Fail> {
-    let alloc = rt.alloc();
-    let mut text = String::from_str(alloc, "stepped\nstarted 00010004\n")?;
-    for _ in 0..68 {
-        text.push_str("moved\n")?;
-    }
-    text.push_str(SPENT_END)?;
-    let files = files(alloc, &SPENT_BEHIND_A_FORK, SPENT_EVENTS)?;
-    let left = perform_over(alloc, REPLAY, files, SURE)?;
-    assert_eq!(rt; left.status, 0);
-    assert_eq!(rt; left.out.as_slice(), text.as_bytes());
+    assert!(rt;
+        replays_so(
+            rt.alloc(),
+            REPLAY,
+            &TEN_TURNS_LOOP,
+            &SPENT_BEHIND_A_FORK,
+            SPENT_EVENTS,
+            &SPENT
+        )?
+    );
     Ok(())
 }
 
@@ -65,101 +59,130 @@ const FORKED_EVENTS: &str = "1 serial
 2 commit
 ";
 
-const FORKED: &str = "stepped
-started 00010004
-forked 1
-moved
-forked 2
-forked 3
-moved
-stalled
-stepped
-done reached
-stepped
-done reached
-committed 2 dropped 0
-squashed x5 predicted 0000000a found 00000009
-position 3
-tasks 1
-by-tasks 2
-serial 1
-squashed 1
-dropped 0
-end none
-output 0
-";
+/// What is put of them.
+static FORKED: [Line; 22] = [
+    ("stepped", 1),
+    ("started 00010004", 1),
+    ("forked 1", 1),
+    ("moved", 1),
+    ("forked 2", 1),
+    ("forked 3", 1),
+    ("moved", 1),
+    ("stalled", 1),
+    ("stepped", 1),
+    ("done reached", 1),
+    ("stepped", 1),
+    ("done reached", 1),
+    ("committed 2 dropped 0", 1),
+    ("squashed x5 predicted 0000000a found 00000009", 1),
+    ("position 3", 1),
+    ("tasks 1", 1),
+    ("by-tasks 2", 1),
+    ("serial 1", 1),
+    ("squashed 1", 1),
+    ("dropped 0", 1),
+    ("end none", 1),
+    ("output 0", 1),
+];
 
 #[test]
 fn tasks_at_one_pc_are_squashed_by_their_values(rt: HostRuntime) -> Result<(), Fail> {
-    let alloc = rt.alloc();
-    let files = files(alloc, &TWO_FORKS_AT_ONE_PC, FORKED_EVENTS)?;
-    let left = perform_over(alloc, REPLAY, files, SURE)?;
-    assert_eq!(rt; left.status, 0);
-    assert_eq!(rt; left.out.as_slice(), FORKED.as_bytes());
+    assert!(rt;
+        replays_so(
+            rt.alloc(),
+            REPLAY,
+            &TEN_TURNS_LOOP,
+            &TWO_FORKS_AT_ONE_PC,
+            FORKED_EVENTS,
+            &FORKED
+        )?
+    );
     Ok(())
+}
+
+const SINK_FAULT: &str = "mssp: sink fault\n";
+
+/// A program, an image and the events that lead to tasks at one pc.
+fn forked(alloc: Global, program: &[u32], image: &[u32]) -> Result<Files, AllocError> {
+    let image = bytes_of(alloc, image)?;
+    files(alloc, program, &image, FORKED_EVENTS.as_bytes(), b"")
+}
+
+/// Whether a run of a program that writes three bytes, with room for two, leaves those.
+fn two_bytes_fit(alloc: Global) -> Result<bool, AllocError> {
+    let left = perform_torn(alloc, &["run", "p"], forked(alloc, &HELLO, &TEN_TURNS)?, 2)?;
+    Ok(left_so(&left, b"hi", 113, SINK_FAULT))
+}
+
+/// Whether a fault of the output is told, where what was put before it is a beginning of the whole.
+fn is_told(left: &Left, whole: &[u8]) -> bool {
+    told_so(left, 113, SINK_FAULT) && whole.starts_with(&left.out)
+}
+
+/// Whether that beginning has so many bytes.
+fn is_torn(left: &Left, whole: &[u8], room: usize) -> bool {
+    is_told(left, whole) && left.out.len() == room
+}
+
+/// Whether a command with room for so many bytes leaves as many of the whole.
+fn torn_so(alloc: Global, words: &[&str], whole: &[u8], room: usize) -> Result<bool, AllocError> {
+    let files = forked(alloc, &TEN_TURNS_LOOP, &TEN_TURNS)?;
+    let left = perform_torn(alloc, words, files, room as u64)?;
+    Ok(is_torn(&left, whole, room))
+}
+
+/// Whether a command that puts lines, torn at each byte, leaves a beginning of the whole.
+fn each_beginning_is_left(alloc: Global, words: &[&str]) -> Result<bool, AllocError> {
+    let files = forked(alloc, &TEN_TURNS_LOOP, &TEN_TURNS)?;
+    let whole = perform_over(alloc, words, files, SURE)?.out;
+    let mut is_left = true;
+    for room in 0..whole.len() {
+        is_left = is_left && torn_so(alloc, words, &whole, room)?;
+    }
+    Ok(is_left)
 }
 
 #[test]
 fn a_torn_output_holds_what_fits(rt: HostRuntime) -> Result<(), Fail> {
     let alloc = rt.alloc();
-    let mut program = files(alloc, &TEN_TURNS, "")?;
-    program.program = frame(alloc, &HELLO)?;
-    let left = perform_torn(alloc, &["run", "p"], program, 2)?;
-    assert_eq!(rt; left.status, 113);
-    assert_eq!(rt; left.out.as_slice(), b"hi".as_slice());
-    assert_eq!(rt; left.err.as_slice(), b"mssp: sink fault\n".as_slice());
-
-    // Each command that puts lines, torn at each byte: what is there is a beginning of the whole.
-    let commands: [&[&str]; 4] = [
-        REPLAY,
-        &["show", "m"],
-        &["check", "p", "m"],
-        &["certify", "p", "m"],
-    ];
-    for words in commands {
-        let whole = perform_over(alloc, words, files(alloc, &TEN_TURNS, FORKED_EVENTS)?, SURE)?;
-        for room in 0..whole.out.len() {
-            let files = files(alloc, &TEN_TURNS, FORKED_EVENTS)?;
-            let left = perform_torn(alloc, words, files, room as u64)?;
-            assert_eq!(rt; left.status, 113, "{words:?} {room}");
-            assert_eq!(rt; left.out.as_slice(), &whole.out[..room], "{words:?} {room}");
-            assert_eq!(rt; left.err.as_slice(), b"mssp: sink fault\n".as_slice());
-        }
-    }
+    assert!(rt; two_bytes_fit(alloc)?);
+    assert!(rt; each_beginning_is_left(alloc, REPLAY)?);
+    assert!(rt; each_beginning_is_left(alloc, &["show", "m"])?);
+    assert!(rt; each_beginning_is_left(alloc, &["check", "p", "m"])?);
+    assert!(rt; each_beginning_is_left(alloc, &["certify", "p", "m"])?);
     Ok(())
 }
 
-/// Each command that puts something, with the status that it has where nothing fails.
-static PUTTING: [(&[&str], u8); 5] = [
-    (&["run", "p"], 0),
-    (&["replay", "p", "m", "e"], 0),
-    (&["show", "m"], 0),
-    (&["check", "p", "m"], 0),
-    (&["certify", "p", "m"], 1),
-];
+/// Performs a command over a program that prints twice, where this call of the output fails.
+fn put(alloc: Global, words: &[&str], out: u64) -> Result<Left, AllocError> {
+    let files = forked(alloc, &HELLO_TWICE, &EXIT_7_CALL)?;
+    perform_over(alloc, words, files, Fails { out, ..SURE })
+}
+
+/// Whether a command that puts something, and has this status where nothing fails, tells of each put that
+/// fails; there are fewer than 63.
+fn each_fault_is_told(alloc: Global, words: &[&str], status: u8) -> Result<bool, AllocError> {
+    let whole = put(alloc, words, 0)?;
+    let mut told = whole.status == status;
+    let mut failed = 0;
+    for out in 1..64 {
+        let left = put(alloc, words, out)?;
+        if left.status == status {
+            break;
+        }
+        failed = out;
+        told = told && is_told(&left, &whole.out);
+    }
+    Ok(told && 0 < failed && failed < 63)
+}
 
 #[test]
 fn each_put_fails_in_turn(rt: HostRuntime) -> Result<(), Fail> {
     let alloc = rt.alloc();
-    for &(words, status) in &PUTTING {
-        let mut ample = files(alloc, &EXIT_7_CALL, FORKED_EVENTS)?;
-        ample.program = frame(alloc, &HELLO_TWICE)?;
-        let whole = perform_over(alloc, words, ample, SURE)?;
-        assert_eq!(rt; whole.status, status, "{words:?}");
-        let mut failed = 0;
-        for out in 1..64 {
-            let mut again = files(alloc, &EXIT_7_CALL, FORKED_EVENTS)?;
-            again.program = frame(alloc, &HELLO_TWICE)?;
-            let left = perform_over(alloc, words, again, Fails { out, ..SURE })?;
-            if left.status == status {
-                break;
-            }
-            failed = out;
-            assert_eq!(rt; left.status, 113, "{words:?} {out}");
-            assert!(rt; whole.out.starts_with(&left.out), "{words:?} {out}");
-            assert_eq!(rt; left.err.as_slice(), b"mssp: sink fault\n".as_slice());
-        }
-        assert!(rt; 0 < failed && failed < 63, "{words:?}");
-    }
+    assert!(rt; each_fault_is_told(alloc, &["run", "p"], 0)?);
+    assert!(rt; each_fault_is_told(alloc, REPLAY, 0)?);
+    assert!(rt; each_fault_is_told(alloc, &["show", "m"], 0)?);
+    assert!(rt; each_fault_is_told(alloc, &["check", "p", "m"], 0)?);
+    assert!(rt; each_fault_is_told(alloc, &["certify", "p", "m"], 1)?);
     Ok(())
 }

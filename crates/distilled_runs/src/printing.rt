@@ -1,8 +1,10 @@
 //! Tasks that print: replays beside images made by hand, and from a profile with calls counted to a run
 //! beside the image that is made of it.
 
-use crate::distilled::text_of;
-use command_fixtures::outside_world::{Files, Left, SURE, perform_over};
+use crate::commands::{
+    Line, REPLAY, perform, put_so, replays_so, reported_so, set, text_of, told_so,
+};
+use command_fixtures::outside_world::Left;
 use std::alloc::{AllocError, Global};
 use std::test::Fail;
 use test_programs::programs::*;
@@ -23,207 +25,206 @@ static WRITES_AT_18: [u32; 39] = [
     0, 1, 0x1000C, 3, 1, 0x10000, 0, 0, 0, 0x10004, 2, 0, 0, 0x1000C, 3, 0, 0, 0x10018,
 ];
 
-fn replay(alloc: Global, program: &[u32], image: &[u32], events: &str) -> Result<Left, AllocError> {
-    let files = Files {
-        program: frame(alloc, program)?,
-        image: bytes_of(alloc, image)?,
-        events: events.as_bytes().to_vec(alloc)?,
-        input: Vec::new(alloc),
-    };
-    perform_over(alloc, &["replay", "p", "m", "e"], files, SURE)
-}
+/// What is put where a task prints and is committed; the last line is what it printed.
+static PRINTED: [Line; 14] = [
+    ("started 00010000", 1),
+    ("stepped", 8),
+    ("done met", 1),
+    ("committed 8 dropped 0", 1),
+    ("ended exit 0", 1),
+    ("position 9", 1),
+    ("tasks 1", 1),
+    ("by-tasks 8", 1),
+    ("serial 1", 1),
+    ("squashed 0", 1),
+    ("dropped 0", 1),
+    ("end exit 0", 1),
+    ("output 3", 1),
+    ("hi", 1),
+];
 
 #[test]
 fn a_task_prints_and_its_commit_shows_it(rt: HostRuntime) -> Result<(), Fail> {
-    let alloc = rt.alloc();
     let events = "1 restart\n9 slave 0\n1 commit\n1 serial\n";
-    let left = replay(alloc, &HELLO, &WRITES_AT_14, events)?;
-    let mut want = text_of(
-        alloc,
-        &[
-            ("started 00010000", 1),
-            ("stepped", 8),
-            ("done met", 1),
-            ("committed 8 dropped 0", 1),
-            ("ended exit 0", 1),
-            ("position 9", 1),
-            ("tasks 1", 1),
-            ("by-tasks 8", 1),
-            ("serial 1", 1),
-            ("squashed 0", 1),
-            ("dropped 0", 1),
-            ("end exit 0", 1),
-            ("output 3", 1),
-        ],
-    )?;
-    want.extend_from_slice(b"hi\n")?;
-    assert_eq!(rt; left.out.as_slice(), want.as_slice());
-    assert_eq!(rt; left.status, 0);
+    assert!(rt; replays_so(rt.alloc(), REPLAY, &HELLO, &WRITES_AT_14, events, &PRINTED)?);
     Ok(())
 }
+
+/// What is put where it isn't committed.
+static NOT_COMMITTED: [Line; 11] = [
+    ("started 00010000", 1),
+    ("stepped", 8),
+    ("done met", 1),
+    ("position 0", 1),
+    ("tasks 0", 1),
+    ("by-tasks 0", 1),
+    ("serial 0", 1),
+    ("squashed 0", 1),
+    ("dropped 0", 1),
+    ("end none", 1),
+    ("output 0", 1),
+];
 
 #[test]
 fn what_no_commit_appended_is_not_shown(rt: HostRuntime) -> Result<(), Fail> {
-    let alloc = rt.alloc();
-    let left = replay(alloc, &HELLO, &WRITES_AT_14, "1 restart\n9 slave 0\n")?;
-    let want = text_of(
-        alloc,
-        &[
-            ("started 00010000", 1),
-            ("stepped", 8),
-            ("done met", 1),
-            ("position 0", 1),
-            ("tasks 0", 1),
-            ("by-tasks 0", 1),
-            ("serial 0", 1),
-            ("squashed 0", 1),
-            ("dropped 0", 1),
-            ("end none", 1),
-            ("output 0", 1),
-        ],
-    )?;
-    assert_eq!(rt; left.out.as_slice(), want.as_slice());
+    let events = "1 restart\n9 slave 0\n";
+    assert!(rt;
+        replays_so(
+            rt.alloc(),
+            REPLAY,
+            &HELLO,
+            &WRITES_AT_14,
+            events,
+            &NOT_COMMITTED
+        )?
+    );
     Ok(())
 }
+
+/// What is put where a task stops before a long write.
+static STOPPED: [Line; 12] = [
+    ("started 00010000", 1),
+    ("stepped", 5),
+    ("done met", 1),
+    ("committed 5 dropped 0", 1),
+    ("position 5", 1),
+    ("tasks 1", 1),
+    ("by-tasks 5", 1),
+    ("serial 0", 1),
+    ("squashed 0", 1),
+    ("dropped 0", 1),
+    ("end none", 1),
+    ("output 0", 1),
+];
 
 #[test]
 fn a_long_write_stops_a_task(rt: HostRuntime) -> Result<(), Fail> {
-    let alloc = rt.alloc();
     let events = "1 restart\n6 slave 0\n1 commit\n";
-    let left = replay(alloc, &WRITE_70_000, &WRITES_AT_14, events)?;
-    let want = text_of(
-        alloc,
-        &[
-            ("started 00010000", 1),
-            ("stepped", 5),
-            ("done met", 1),
-            ("committed 5 dropped 0", 1),
-            ("position 5", 1),
-            ("tasks 1", 1),
-            ("by-tasks 5", 1),
-            ("serial 0", 1),
-            ("squashed 0", 1),
-            ("dropped 0", 1),
-            ("end none", 1),
-            ("output 0", 1),
-        ],
-    )?;
-    assert_eq!(rt; left.out.as_slice(), want.as_slice());
+    assert!(rt;
+        replays_so(
+            rt.alloc(),
+            REPLAY,
+            &WRITE_70_000,
+            &WRITES_AT_14,
+            events,
+            &STOPPED
+        )?
+    );
     Ok(())
 }
 
+/// What is put where the second task showed another byte than the first stores.
+static SQUASHED: [Line; 17] = [
+    ("started 00010000", 1),
+    ("moved", 2),
+    ("forked 1", 1),
+    ("stepped", 6),
+    ("done met", 1),
+    ("stepped", 2),
+    ("done reached", 1),
+    ("committed 3 dropped 0", 1),
+    (
+        "squashed byte 00020000 predicted 00000000 found 00000041",
+        1,
+    ),
+    ("position 3", 1),
+    ("tasks 1", 1),
+    ("by-tasks 3", 1),
+    ("serial 0", 1),
+    ("squashed 1", 1),
+    ("dropped 0", 1),
+    ("end none", 1),
+    ("output 0", 1),
+];
+
 #[test]
 fn a_shown_byte_that_differs_squashes(rt: HostRuntime) -> Result<(), Fail> {
-    let alloc = rt.alloc();
     let events = "1 restart\n3 master\n7 slave 1\n3 slave 0\n2 commit\n";
-    let left = replay(alloc, &STORE_FOR_WRITE, &WRITES_AT_18, events)?;
-    let want = text_of(
-        alloc,
-        &[
-            ("started 00010000", 1),
-            ("moved", 2),
-            ("forked 1", 1),
-            ("stepped", 6),
-            ("done met", 1),
-            ("stepped", 2),
-            ("done reached", 1),
-            ("committed 3 dropped 0", 1),
-            (
-                "squashed byte 00020000 predicted 00000000 found 00000041",
-                1,
-            ),
-            ("position 3", 1),
-            ("tasks 1", 1),
-            ("by-tasks 3", 1),
-            ("serial 0", 1),
-            ("squashed 1", 1),
-            ("dropped 0", 1),
-            ("end none", 1),
-            ("output 0", 1),
-        ],
-    )?;
-    assert_eq!(rt; left.out.as_slice(), want.as_slice());
+    assert!(rt;
+        replays_so(
+            rt.alloc(),
+            REPLAY,
+            &STORE_FOR_WRITE,
+            &WRITES_AT_18,
+            events,
+            &SQUASHED
+        )?
+    );
     Ok(())
+}
+
+/// Whether a replay beside an image where tasks have so many steps leaves this status and line.
+fn limited_so(alloc: Global, limit: u32, status: u8, line: &str) -> Result<bool, AllocError> {
+    let mut words = WRITES_AT_14.to_vec(alloc)?;
+    set(&mut words, 2, limit);
+    let image = bytes_of(alloc, &words)?;
+    let left = perform(alloc, REPLAY, &HELLO, &image, b"", b"")?;
+    Ok(told_so(&left, status, line))
 }
 
 #[test]
 fn a_task_of_version_2_has_4_096_steps_at_most(rt: HostRuntime) -> Result<(), Fail> {
     let alloc = rt.alloc();
-    for (limit, status, line) in [(4_096, 0, ""), (4_097, 117, "mssp: image m: limit\n")] {
-        let mut image = WRITES_AT_14;
-        image[2] = limit;
-        let left = replay(alloc, &HELLO, &image, "")?;
-        assert_eq!(rt; left.status, status);
-        assert_eq!(rt; left.err.as_slice(), line.as_bytes());
-    }
+    assert!(rt; limited_so(alloc, 4_096, 0, "")?);
+    assert!(rt; limited_so(alloc, 4_097, 117, "mssp: image m: limit\n")?);
     Ok(())
-}
-
-/// Performs a command over a program and the file `m`.
-fn over(alloc: Global, words: &[&str], program: &[u32], other: &[u8]) -> Result<Left, AllocError> {
-    let files = Files {
-        program: frame(alloc, program)?,
-        image: other.to_vec(alloc)?,
-        events: Vec::new(alloc),
-        input: Vec::new(alloc),
-    };
-    perform_over(alloc, words, files, SURE)
 }
 
 /// The image of a program, by its profile with calls counted, or without. Tasks are to take 14 steps.
 pub(crate) fn image_of(alloc: Global, program: &[u32], calls: &str) -> Result<Vec<u8>, AllocError> {
-    let profile = over(
-        alloc,
-        &["profile", "p", "r", "--calls", calls],
-        program,
-        &[],
-    )?;
+    let words = ["profile", "p", "r", "--calls", calls];
+    let profile = perform(alloc, &words, program, b"", b"", b"")?.report;
     let words = [
         "distill", "p", "m", "r", "--rare", "0", "--hot", "2", "--goal", "14", "--limit", "64",
     ];
-    let image = over(alloc, &words, program, &profile.report)?;
-    Ok(image.report)
+    Ok(perform(alloc, &words, program, &profile, b"", b"")?.report)
+}
+
+/// Whether the run of a program meets, by this line, what the image by its own profile assumes.
+fn meets(alloc: Global, program: &[u32], calls: &str, line: &str) -> Result<bool, AllocError> {
+    let image = image_of(alloc, program, calls)?;
+    let left = perform(alloc, &["check", "p", "m"], program, &image, b"", b"")?;
+    Ok(put_so(&left, 0, line.as_bytes()))
 }
 
 #[test]
 fn a_run_meets_what_its_own_profile_gives(rt: HostRuntime) -> Result<(), Fail> {
     let alloc = rt.alloc();
-    let checks: [(&[u32], &str, &[u8]); 4] = [
-        (&HELLO, "1", b"met 9\n"),
-        (&HELLO, "0", b"met 9\n"),
-        (&PRINTS_TEN, "1", b"met 74\n"),
-        (&PRINTS_TEN, "0", b"met 74\n"),
-    ];
-    for (program, calls, line) in checks {
-        let image = image_of(alloc, program, calls)?;
-        let left = over(alloc, &["check", "p", "m"], program, &image)?;
-        assert_eq!(rt; left.out.as_slice(), line);
-        assert_eq!(rt; left.status, 0);
-    }
+    assert!(rt; meets(alloc, &HELLO, "1", "met 9\n")?);
+    assert!(rt; meets(alloc, &HELLO, "0", "met 9\n")?);
+    assert!(rt; meets(alloc, &PRINTS_TEN, "1", "met 74\n")?);
+    assert!(rt; meets(alloc, &PRINTS_TEN, "0", "met 74\n")?);
     Ok(())
+}
+
+/// The report of a run whose tasks print ten bytes.
+static TEN_PRINTED: [Line; 8] = [
+    ("position 74", 1),
+    ("tasks 6", 1),
+    ("by-tasks 73", 1),
+    ("serial 1", 1),
+    ("squashed 0", 1),
+    ("dropped 0", 1),
+    ("end exit 0", 1),
+    ("output 10", 1),
+];
+
+/// Whether a command left the ten bytes and this report.
+fn left_ten(left: &Left, report: &[u8]) -> bool {
+    reported_so(left, 0, report) && left.out.as_slice() == [0x93; 10].as_slice()
+}
+
+/// Whether a run beside the image that is made of its profile leaves the ten bytes and that report.
+fn tasks_print_ten(alloc: Global) -> Result<bool, AllocError> {
+    let want = text_of(alloc, &TEN_PRINTED)?;
+    let image = image_of(alloc, &PRINTS_TEN, "1")?;
+    let words = ["run", "p", "--image", "m", "--report", "r"];
+    let left = perform(alloc, &words, &PRINTS_TEN, &image, b"", b"")?;
+    Ok(left_ten(&left, &want))
 }
 
 #[test]
 fn ten_bytes_are_printed_by_tasks(rt: HostRuntime) -> Result<(), Fail> {
-    let alloc = rt.alloc();
-    let image = image_of(alloc, &PRINTS_TEN, "1")?;
-    let words = ["run", "p", "--image", "m", "--report", "r"];
-    let left = over(alloc, &words, &PRINTS_TEN, &image)?;
-    let want = text_of(
-        alloc,
-        &[
-            ("position 74", 1),
-            ("tasks 6", 1),
-            ("by-tasks 73", 1),
-            ("serial 1", 1),
-            ("squashed 0", 1),
-            ("dropped 0", 1),
-            ("end exit 0", 1),
-            ("output 10", 1),
-        ],
-    )?;
-    assert_eq!(rt; left.report.as_slice(), want.as_slice());
-    assert_eq!(rt; left.out.as_slice(), [0x93; 10].as_slice());
-    assert_eq!(rt; left.status, 0);
+    assert!(rt; tasks_print_ten(rt.alloc())?);
     Ok(())
 }

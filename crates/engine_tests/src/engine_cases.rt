@@ -5,7 +5,6 @@ use engine::{End, Engine, Event, Mode};
 use memory::PlainMemory;
 use seq_machine::{Machine, load};
 use std::alloc::Global;
-use std::process::Abort;
 use std::test::Fail;
 use test_programs::images::{COUNTER, EXIT_7_CALL, REWRITTEN, TEN_TURNS, WRONG_ANCHOR, image};
 use test_programs::programs::{
@@ -91,7 +90,10 @@ fn effects(alloc: Global, engine: &mut Engine<PlainMemory>, events: &str) -> Res
 type Counted = [u64; 6];
 
 /// What an engine counted, and the position and the end of what is committed.
-fn stand(engine: &Engine<PlainMemory>) -> (Counted, u64, Option<End>) {
+type Stand = (Counted, u64, Option<End>);
+
+/// How an engine stands.
+fn stand(engine: &Engine<PlainMemory>) -> Stand {
     let c = engine.counts();
     let counted = [
         c.events, c.tasks, c.by_tasks, c.serial, c.squashed, c.dropped,
@@ -100,132 +102,149 @@ fn stand(engine: &Engine<PlainMemory>) -> (Counted, u64, Option<End>) {
     (counted, committed.position, committed.end)
 }
 
-#[test]
-fn idle_while_serial(rt: HostRuntime) -> Result<(), Fail> {
-    let alloc = rt.alloc();
-    let mut engine = engine_of(alloc, &TEN_TURNS_LOOP, &TEN_TURNS, 64)?;
-    let told = effects(alloc, &mut engine, "c0m")?;
-    assert_eq!(rt; told.as_str(), "Idle; Idle; Idle; ");
-    assert_eq!(rt; stand(&engine), ([3, 0, 0, 0, 0, 0], 0, None));
-    let idle = (engine.mode(), engine.live(), engine.image().limit);
-    assert_eq!(rt; idle, (Mode::Serial { debt: false }, 0, 64));
-    Ok(())
+/// Whether these events do this, and leave an engine that stands so.
+fn comes_to(
+    alloc: Global,
+    engine: &mut Engine<PlainMemory>,
+    events: &str,
+    told: &str,
+    want: Stand,
+) -> Result<bool, Fail> {
+    let found = effects(alloc, engine, events)?;
+    Ok(found.as_str() == told && stand(engine) == want)
+}
+
+/// The same of an engine over two slaves that has had no event.
+fn begins_to(
+    alloc: Global,
+    (words, numbers): (&[u32], &[u32]),
+    events: &str,
+    told: &str,
+    want: Stand,
+) -> Result<bool, Fail> {
+    let mut engine = engine_of(alloc, words, numbers, 2)?;
+    comes_to(alloc, &mut engine, events, told, want)
 }
 
 #[test]
+fn idle_while_serial(rt: HostRuntime) -> Result<(), Fail> {
+    let mut engine = engine_of(rt.alloc(), &TEN_TURNS_LOOP, &TEN_TURNS, 64)?;
+    let want = ([3, 0, 0, 0, 0, 0], 0, None);
+    assert!(rt; comes_to(rt.alloc(), &mut engine, "c0m", "Idle; Idle; Idle; ", want)?);
+    let idle = (engine.mode(), engine.live(), engine.image().limit);
+    assert!(rt; idle == (Mode::Serial { debt: false }, 0, 64));
+    Ok(())
+}
+
+/// What fourteen events do, with two turns of `TEN_TURNS_LOOP`.
+const TWO_TURNS_TOLD: &str =
+    "Idle; Stepped; Started(65540); Stepped; Stepped; Stepped; Done(Reached); \
+     Committed { steps: 4, dropped: 0 }; Moved; Moved; Moved; Moved; Moved; \
+     Forked(1); ";
+
+#[test]
 fn two_turns_are_committed(rt: HostRuntime) -> Result<(), Fail> {
-    let alloc = rt.alloc();
-    let mut engine = engine_of(alloc, &TEN_TURNS_LOOP, &TEN_TURNS, 4)?;
-    let told = effects(alloc, &mut engine, "rsr0000cmmmmmm")?;
-    assert_eq!(rt;
-        told.as_str(),
-        "Idle; Stepped; Started(65540); Stepped; Stepped; Stepped; Done(Reached); \
-         Committed { steps: 4, dropped: 0 }; Moved; Moved; Moved; Moved; Moved; \
-         Forked(1); "
+    let mut engine = engine_of(rt.alloc(), &TEN_TURNS_LOOP, &TEN_TURNS, 4)?;
+    let want = ([14, 1, 4, 1, 0, 0], 5, None);
+    assert!(rt;
+        comes_to(
+            rt.alloc(),
+            &mut engine,
+            "rsr0000cmmmmmm",
+            TWO_TURNS_TOLD,
+            want
+        )?
     );
-    assert_eq!(rt; stand(&engine), ([14, 1, 4, 1, 0, 0], 5, None));
-    assert_eq!(rt; (engine.mode(), engine.live()), (Mode::Speculating, 1));
+    assert!(rt; (engine.mode(), engine.live()) == (Mode::Speculating, 1));
     Ok(())
 }
 
 #[test]
 fn a_wrong_pc_is_squashed(rt: HostRuntime) -> Result<(), Fail> {
-    let alloc = rt.alloc();
-    let mut engine = engine_of(alloc, &TEN_TURNS_LOOP, &WRONG_ANCHOR, 2)?;
-    let told = effects(alloc, &mut engine, "sr00mmc111crssr")?;
-    assert_eq!(rt;
-        told.as_str(),
-        "Stepped; Started(65540); Stepped; Done(Reached); Moved; Forked(1); \
+    let told = "Stepped; Started(65540); Stepped; Done(Reached); Moved; Forked(1); \
          Committed { steps: 2, dropped: 0 }; Stepped; Stepped; Done(Met); \
          Squashed(Differ { cell: Pc, predicted: 65548, found: 65540 }); Idle; Stepped; \
-         Stepped; Started(65540); "
-    );
-    assert_eq!(rt; stand(&engine), ([15, 1, 2, 3, 1, 0], 5, None));
+         Stepped; Started(65540); ";
+    let want = ([15, 1, 2, 3, 1, 0], 5, None);
+    let machine = (TEN_TURNS_LOOP.as_slice(), WRONG_ANCHOR.as_slice());
+    assert!(rt; begins_to(rt.alloc(), machine, "sr00mmc111crssr", told, want)?);
     Ok(())
 }
 
 #[test]
 fn a_call_is_met_and_not_committed(rt: HostRuntime) -> Result<(), Fail> {
-    let alloc = rt.alloc();
-    let mut engine = engine_of(alloc, &EXIT_7, &EXIT_7_CALL, 1)?;
-    let told = effects(alloc, &mut engine, "ssr0crs")?;
-    assert_eq!(rt;
-        told.as_str(),
-        "Stepped; Stepped; Started(65544); Done(Met); \
-         Committed { steps: 0, dropped: 0 }; Idle; Ended(Exit(7)); "
-    );
-    assert_eq!(rt; stand(&engine), ([7, 1, 0, 3, 0, 0], 3, Some(End::Exit(7))));
+    let mut engine = engine_of(rt.alloc(), &EXIT_7, &EXIT_7_CALL, 1)?;
+    let told = "Stepped; Stepped; Started(65544); Done(Met); \
+         Committed { steps: 0, dropped: 0 }; Idle; Ended(Exit(7)); ";
+    let want = ([7, 1, 0, 3, 0, 0], 3, Some(End::Exit(7)));
+    assert!(rt; comes_to(rt.alloc(), &mut engine, "ssr0crs", told, want)?);
     Ok(())
 }
 
 #[test]
 fn a_wrong_byte_is_squashed(rt: HostRuntime) -> Result<(), Fail> {
-    let alloc = rt.alloc();
-    let mut engine = engine_of(alloc, &COUNT_WITHOUT_END, &COUNTER, 2)?;
-    let told = effects(alloc, &mut engine, "srmm11110000cc")?;
-    assert_eq!(rt;
-        told.as_str(),
-        "Stepped; Started(65540); Moved; Forked(1); Stepped; Stepped; Stepped; \
+    let told = "Stepped; Started(65540); Moved; Forked(1); Stepped; Stepped; Stepped; \
          Done(Reached); Stepped; Stepped; Stepped; Done(Reached); \
          Committed { steps: 4, dropped: 0 }; \
-         Squashed(Differ { cell: Byte(131072), predicted: 0, found: 1 }); "
-    );
-    assert_eq!(rt; stand(&engine), ([14, 1, 4, 1, 1, 0], 5, None));
+         Squashed(Differ { cell: Byte(131072), predicted: 0, found: 1 }); ";
+    let want = ([14, 1, 4, 1, 1, 0], 5, None);
+    let machine = (COUNT_WITHOUT_END.as_slice(), COUNTER.as_slice());
+    assert!(rt; begins_to(rt.alloc(), machine, "srmm11110000cc", told, want)?);
     Ok(())
 }
 
 #[test]
 fn a_rewritten_instruction_is_squashed(rt: HostRuntime) -> Result<(), Fail> {
-    let alloc = rt.alloc();
-    let mut engine = engine_of(alloc, &REWRITES_ITSELF, &REWRITTEN, 2)?;
-    let told = effects(alloc, &mut engine, "rmm111000ccsss")?;
-    assert_eq!(rt;
-        told.as_str(),
-        "Started(65536); Moved; Forked(1); Stepped; Stepped; Done(Met); Stepped; \
+    let told = "Started(65536); Moved; Forked(1); Stepped; Stepped; Done(Met); Stepped; \
          Stepped; Done(Reached); Committed { steps: 3, dropped: 0 }; \
          Squashed(Differ { cell: Byte(65554), predicted: 112, found: 144 }); Stepped; \
-         Stepped; Ended(Exit(9)); "
-    );
-    assert_eq!(rt;
-        stand(&engine),
-        ([14, 1, 3, 3, 1, 0], 6, Some(End::Exit(9)))
-    );
+         Stepped; Ended(Exit(9)); ";
+    let want = ([14, 1, 3, 3, 1, 0], 6, Some(End::Exit(9)));
+    let machine = (REWRITES_ITSELF.as_slice(), REWRITTEN.as_slice());
+    assert!(rt; begins_to(rt.alloc(), machine, "rmm111000ccsss", told, want)?);
     Ok(())
 }
 
 #[test]
 fn a_master_is_lost(rt: HostRuntime) -> Result<(), Fail> {
-    let alloc = rt.alloc();
-    let mut engine = engine_of(alloc, &TEN_TURNS_LOOP, &INTO_NOWHERE, 2)?;
-    let told = effects(alloc, &mut engine, "srmm")?;
-    assert_eq!(rt;
-        told.as_str(),
-        "Stepped; Started(65540); Halted(Lost); Idle; "
-    );
-    assert_eq!(rt; stand(&engine), ([4, 0, 0, 1, 0, 0], 1, None));
+    let told = "Stepped; Started(65540); Halted(Lost); Idle; ";
+    let want = ([4, 0, 0, 1, 0, 0], 1, None);
+    let machine = (TEN_TURNS_LOOP.as_slice(), INTO_NOWHERE.as_slice());
+    assert!(rt; begins_to(rt.alloc(), machine, "srmm", told, want)?);
     Ok(())
 }
 
-/// Sixty rounds over two slaves leave the machine where as many steps of the program alone do.
-fn runs_as_alone(alloc: Global, rt: &impl Abort, numbers: &[u32]) -> Result<(), Fail> {
-    let mut engine = engine_of(alloc, &TEN_TURNS_LOOP, numbers, 2)?;
+/// Gives an engine over two slaves the events of sixty rounds.
+fn give_rounds(alloc: Global, engine: &mut Engine<PlainMemory>) -> Result<(), Fail> {
     for _ in 0..60 {
-        let _told = effects(alloc, &mut engine, ROUND)?;
+        let _told = effects(alloc, engine, ROUND)?;
     }
-    let committed = engine.committed();
-    let alone = after_steps(alloc, &TEN_TURNS_LOOP, committed.position)?;
-    let is_same = committed.arch.regs == alone.arch.regs;
-    assert_eq!(rt; (committed.position >= 16, is_same), (true, true));
-    let stands = (committed.arch.pc, committed.end);
-    assert_eq!(rt; stands, (alone.arch.pc, alone.end));
     Ok(())
+}
+
+/// Whether at least 16 steps are committed, and as many steps of the program alone come to the same.
+fn stands_as_alone(alloc: Global, committed: &Machine<PlainMemory>) -> Result<bool, Fail> {
+    let alone = after_steps(alloc, &TEN_TURNS_LOOP, committed.position)?;
+    Ok(
+        committed.position >= 16
+            && committed.arch.regs == alone.arch.regs
+            && committed.arch.pc == alone.arch.pc
+            && committed.end == alone.end,
+    )
+}
+
+/// Sixty rounds over two slaves leave the machine where as many steps of the program alone do.
+fn runs_as_alone(alloc: Global, numbers: &[u32]) -> Result<bool, Fail> {
+    let mut engine = engine_of(alloc, &TEN_TURNS_LOOP, numbers, 2)?;
+    give_rounds(alloc, &mut engine)?;
+    stands_as_alone(alloc, engine.committed())
 }
 
 #[test]
 fn hostile_images_change_nothing(rt: HostRuntime) -> Result<(), Fail> {
-    let alloc = rt.alloc();
-    runs_as_alone(alloc, &rt, &NOTHING)?;
-    runs_as_alone(alloc, &rt, &INTO_NOWHERE)?;
-    runs_as_alone(alloc, &rt, &IN_A_CIRCLE)?;
-    runs_as_alone(alloc, &rt, &WRONG_ANCHOR)
+    assert!(rt; runs_as_alone(rt.alloc(), &NOTHING)?);
+    assert!(rt; runs_as_alone(rt.alloc(), &INTO_NOWHERE)?);
+    assert!(rt; runs_as_alone(rt.alloc(), &IN_A_CIRCLE)?);
+    assert!(rt; runs_as_alone(rt.alloc(), &WRONG_ANCHOR)?);
+    Ok(())
 }

@@ -29,13 +29,14 @@ static NUMBERS: [(&str, Option<u64>); 23] = [
     ("\u{ff11}", None),
 ];
 
+/// The number of eight bytes that a word is.
+fn number(word: &str) -> Option<u64> {
+    number_within(0, u64::MAX, word.as_bytes())
+}
+
 #[test]
 fn reads_numbers(rt: HostRuntime) {
     for &(word, want) in &NUMBERS {
-        assert_eq!(rt;
-            number_within(0, u64::MAX, word.as_bytes()),
-            want,
-            "at {word:?}"
-        );
+        assert_eq!(rt; number(word), want, "at {word:?}");
     }
 }

@@ -115,35 +115,58 @@ static ANSWERS_THE_FIRST_REFUSAL_CASES: [(usize, &[(usize, u8)], ElfErr); 20] = 
     (96, &[(63, 0xFF), (62, 0xFF), (72, 11)], ElfErr::Larger(0)),
 ];
 
+/// How a file is refused.
+fn refusal(alloc: Global, file: &[u8]) -> Option<ElfErr> {
+    read_elf(alloc, file).err()
+}
+
+/// How the first bytes of the first file are refused, with some of them changed.
+fn changed_refusal(
+    alloc: Global,
+    length: usize,
+    changes: &[(usize, u8)],
+) -> Result<Option<ElfErr>, AllocError> {
+    let file = changed(alloc, &EXIT_7, length, changes)?;
+    Ok(refusal(alloc, &file))
+}
+
 #[test]
 fn answers_the_first_refusal(rt: HostRuntime) -> Result<(), Fail> {
     for &(length, changes, want) in &ANSWERS_THE_FIRST_REFUSAL_CASES {
-        let file = changed(rt.alloc(), &EXIT_7, length, changes)?;
-        assert_eq!(rt;
-            read_elf(rt.alloc(), &file).err(),
-            Some(want),
-            "{changes:?}"
-        );
+        let answer = changed_refusal(rt.alloc(), length, changes)?;
+        assert_eq!(rt; answer, Some(want), "{changes:?}");
     }
     Ok(())
 }
 
+/// How the second file is refused where it ends behind so many bytes.
+fn front_refusal(length: usize) -> ElfErr {
+    if length < 52 {
+        ElfErr::Short
+    } else if length < 148 {
+        ElfErr::Table
+    } else {
+        ElfErr::Outside(1)
+    }
+}
+
+/// The length of the first front of it that isn't refused so.
+fn other_front(alloc: Global) -> Option<usize> {
+    for length in 0..THREE_HEADERS.len() {
+        if refusal(alloc, &THREE_HEADERS[..length]) != Some(front_refusal(length)) {
+            return Some(length);
+        }
+    }
+    None
+}
+
 #[test]
 fn answers_each_prefix(rt: HostRuntime) -> Result<(), Fail> {
-    for length in 0..THREE_HEADERS.len() {
-        let want = match length {
-            0..52 => ElfErr::Short,
-            52..148 => ElfErr::Table,
-            _ => ElfErr::Outside(1),
-        };
-        let answer = read_elf(rt.alloc(), &THREE_HEADERS[..length]);
-        assert_eq!(rt; answer.err(), Some(want), "{length} bytes");
-    }
-
+    assert_eq!(rt; other_front(rt.alloc()), None);
     // An interpreter is refused before the fault of a header that stands above it.
     let interpreter = [(100, 161), (116, 3), (117, 0), (118, 0), (119, 0)];
     let file = changed(rt.alloc(), &THREE_HEADERS, 160, &interpreter)?;
-    assert_eq!(rt; read_elf(rt.alloc(), &file).err(), Some(ElfErr::Interp));
+    assert_eq!(rt; refusal(rt.alloc(), &file), Some(ElfErr::Interp));
     Ok(())
 }
 
@@ -155,13 +178,24 @@ static COUNTS: [(u8, usize, u8, Option<ElfErr>); 4] = [
     (65, 51 + 65 * 32, 0, Some(ElfErr::Table)),
 ];
 
+/// How a file of this length with so many headers is refused, the first of this type and the others 0.
+fn headers_refusal(
+    alloc: Global,
+    count: u8,
+    length: usize,
+    kind: u8,
+) -> Result<Option<ElfErr>, AllocError> {
+    let mut file = changed(alloc, &EXIT_7, 52, &[(44, count)])?;
+    file.push(kind)?;
+    file.resize(length, 0)?;
+    Ok(refusal(alloc, &file))
+}
+
 #[test]
 fn counts_headers(rt: HostRuntime) -> Result<(), Fail> {
     for &(count, length, kind, want) in &COUNTS {
-        let mut file = changed(rt.alloc(), &EXIT_7, 52, &[(44, count)])?;
-        file.push(kind)?;
-        file.resize(length, 0)?;
-        assert_eq!(rt; read_elf(rt.alloc(), &file).err(), want, "{count} headers");
+        let answer = headers_refusal(rt.alloc(), count, length, kind)?;
+        assert_eq!(rt; answer, want, "{count} headers");
     }
     Ok(())
 }
@@ -174,33 +208,68 @@ fn only_part(program: &Program) -> Option<(u32, usize, u32)> {
     }
 }
 
+/// Whether a file is read as a program that starts at this address, has this part alone, and this first
+/// break.
+fn reads(
+    alloc: Global,
+    file: &[u8],
+    entry: u32,
+    part: (u32, usize, u32),
+    first_break: u32,
+) -> Result<bool, ElfErr> {
+    let program = read_elf(alloc, file)?;
+    let about = (program.entry, program.first_break);
+    Ok(about == (entry, first_break) && only_part(&program) == Some(part))
+}
+
+/// Whether the first file is read so with these changes.
+fn reads_changed(
+    alloc: Global,
+    changes: &[(usize, u8)],
+    part: (u32, usize, u32),
+    first_break: u32,
+) -> Result<bool, ElfErr> {
+    let file = changed(alloc, &EXIT_7, 96, changes)?;
+    reads(alloc, &file, 0x1_0000, part, first_break)
+}
+
+/// Changes of the first file, the part that is read, and the first break.
+static CHANGED_PARTS: [(&[(usize, u8)], (u32, usize, u32), u32); 3] = [
+    (&[], (0x1_0000, 12, 0), 0x1_1000),
+    (&[(36, 0x10)], (0x1_0000, 12, 0), 0x1_1000),
+    // nearly four gigabytes
+    (
+        &[(62, 0), (72, 0), (73, 0xF0), (74, 0xFF), (75, 0xFF)],
+        (0, 12, 0xFFFF_EFF4),
+        0xFFFF_F000,
+    ),
+];
+
 #[test]
 fn reads_parts(rt: HostRuntime) -> Result<(), Fail> {
-    let other_flags = changed(rt.alloc(), &EXIT_7, 96, &[(36, 0x10)])?;
-    let four_gigabytes = [(62, 0), (72, 0), (73, 0xF0), (74, 0xFF), (75, 0xFF)];
-    let vast = changed(rt.alloc(), &EXIT_7, 96, &four_gigabytes)?;
-    let cases: [(&[u8], u32, u32, usize, u32, u32); 5] = [
-        (&EXIT_7, 0x1_0000, 0x1_0000, 12, 0, 0x1_1000),
-        (&other_flags, 0x1_0000, 0x1_0000, 12, 0, 0x1_1000),
-        (&THREE_HEADERS, 0x1_0094, 0x1_0000, 160, 0x1F61, 0x1_3000),
-        (&LINKED, 0x1_0074, 0x1_0074, 0x2F, 0x1389, 0x1_2000),
-        (&vast, 0x1_0000, 0, 12, 0xFFFF_EFF4, 0xFFFF_F000),
-    ];
-    for (file, entry, at, length, zeros, first_break) in cases {
-        let program = read_elf(rt.alloc(), file)?;
-        assert_eq!(rt; only_part(&program), Some((at, length, zeros)));
-        let about = (program.entry, program.first_break);
-        assert_eq!(rt; about, (entry, first_break));
+    for &(changes, part, first_break) in &CHANGED_PARTS {
+        let is_so = reads_changed(rt.alloc(), changes, part, first_break)?;
+        assert!(rt; is_so, "{changes:?}");
     }
+    let part = (0x1_0000, 160, 0x1F61);
+    let between_headers = reads(rt.alloc(), &THREE_HEADERS, 0x1_0094, part, 0x1_3000)?;
+    let part = (0x1_0074, 0x2F, 0x1389);
+    let linked = reads(rt.alloc(), &LINKED, 0x1_0074, part, 0x1_2000)?;
+    assert_eq!(rt; (between_headers, linked), (true, true));
     Ok(())
+}
+
+/// How many parts the program of a file has, and its first break.
+fn about_parts(alloc: Global, file: &[u8]) -> Result<(usize, u32), ElfErr> {
+    let program = read_elf(alloc, file)?;
+    Ok((program.parts.len(), program.first_break))
 }
 
 #[test]
 fn reads_no_part(rt: HostRuntime) -> Result<(), Fail> {
     // With no headers there is no part, and the table may lie anywhere.
     let no_headers = changed(rt.alloc(), &EXIT_7, 52, &[(31, 0xFF), (44, 0)])?;
-    let program = read_elf(rt.alloc(), &no_headers)?;
-    assert_eq!(rt; (program.parts.len(), program.first_break), (0, 0));
+    assert_eq!(rt; about_parts(rt.alloc(), &no_headers)?, (0, 0));
     Ok(())
 }
 
@@ -225,15 +294,21 @@ static OVERLAPPING_WORDS: [(u32, u32); 7] = [
     (0xFFFF_FFFE, 0x0201_0000),
 ];
 
+/// The first of these addresses where the program of a file has another word.
+fn other_word(alloc: Global, file: &[u8], words: &[(u32, u32)]) -> Result<Option<u32>, ElfErr> {
+    let program = read_elf(alloc, file)?;
+    for &(address, word) in words {
+        if word_at(&program, address) != word {
+            return Ok(Some(address));
+        }
+    }
+    Ok(None)
+}
+
 #[test]
 fn reads_words(rt: HostRuntime) -> Result<(), Fail> {
-    let linked = read_elf(rt.alloc(), &LINKED)?;
-    for &(address, word) in &LINKED_WORDS {
-        assert_eq!(rt; word_at(&linked, address), word, "at {address:08x}");
-    }
-    let overlapping = read_elf(rt.alloc(), &OVERLAPPING)?;
-    for &(address, word) in &OVERLAPPING_WORDS {
-        assert_eq!(rt; word_at(&overlapping, address), word, "at {address:08x}");
-    }
+    let linked = other_word(rt.alloc(), &LINKED, &LINKED_WORDS)?;
+    let overlapping = other_word(rt.alloc(), &OVERLAPPING, &OVERLAPPING_WORDS)?;
+    assert_eq!(rt; (linked, overlapping), (None, None));
     Ok(())
 }

@@ -1,5 +1,7 @@
 //! Files and what they hold, each refusal, and rounds.
 
+ghost use Rattle.std.specs.Prelude.{◌≤◌};
+
 use event_list::{Event, EventErr, read_events, round};
 use std::alloc::Global;
 use std::test::Fail;
@@ -32,11 +34,16 @@ static READS_LISTS_CASES: [(&[u8], &[(u32, Event)]); 13] = [
     ),
 ];
 
+/// Whether a file lists these events.
+fn lists(alloc: Global, file: &[u8], events: &[(u32, Event)]) -> Result<bool, EventErr> {
+    let found = read_events(alloc, file)?;
+    Ok(*found.as_slice() == *events)
+}
+
 #[test]
 fn reads_lists(rt: HostRuntime) -> Result<(), Fail> {
-    for &(file, want) in &READS_LISTS_CASES {
-        let events = read_events(rt.alloc(), file)?;
-        assert_eq!(rt; events.as_slice(), want, "{file:?}");
+    for &(file, events) in &READS_LISTS_CASES {
+        assert!(rt; lists(rt.alloc(), file, events)?, "{file:?}");
     }
     Ok(())
 }
@@ -146,66 +153,89 @@ fn answers_the_first_refusal(rt: HostRuntime) {
     }
 }
 
+/// Whether rounds over so many slaves have these events from this number on.
+fn goes_on(slaves: u8, from: u64, events: &[Event]) -> bool
+    requires some { 1 ≤ slaves }
+    requires few { slaves ≤ 64 }
+{
+    let mut number = from;
+    for event in events {
+        if round(slaves, number) != *event {
+            return false;
+        }
+        number = number.wrapping_add(1);
+    }
+    true
+}
+
+/// A round over one slave.
+static ROUND_OF_ONE: [Event; 8] = [
+    Event::Restart,
+    Event::Serial,
+    Event::Master,
+    Event::Master,
+    Event::Master,
+    Event::Master,
+    Event::Slave(0),
+    Event::Commit,
+];
+
 #[test]
 fn goes_round_a_single_slave(rt: HostRuntime) {
-    let want = [
-        Event::Restart,
-        Event::Serial,
-        Event::Master,
-        Event::Master,
-        Event::Master,
-        Event::Master,
-        Event::Slave(0),
-        Event::Commit,
-    ];
-    for (place, event) in want.iter().enumerate() {
-        let first = place as u64;
-        assert_eq!(rt; round(1, first), *event, "{first}");
-        assert_eq!(rt; round(1, first + 8), *event, "{first}");
+    for first in [0, 8] {
+        assert!(rt; goes_on(1, first, &ROUND_OF_ONE), "{first}");
     }
 }
 
+/// A round over four slaves.
+static ROUND_OF_FOUR: [Event; 11] = [
+    Event::Restart,
+    Event::Serial,
+    Event::Master,
+    Event::Master,
+    Event::Master,
+    Event::Master,
+    Event::Slave(0),
+    Event::Slave(1),
+    Event::Slave(2),
+    Event::Slave(3),
+    Event::Commit,
+];
+
 #[test]
 fn goes_round_four_slaves(rt: HostRuntime) {
-    let want = [
-        Event::Restart,
-        Event::Serial,
-        Event::Master,
-        Event::Master,
-        Event::Master,
-        Event::Master,
-        Event::Slave(0),
-        Event::Slave(1),
-        Event::Slave(2),
-        Event::Slave(3),
-        Event::Commit,
-    ];
-    for (place, event) in want.iter().enumerate() {
-        let first = place as u64;
-        assert_eq!(rt; round(4, first), *event, "{first}");
-        assert_eq!(rt; round(4, first + 11), *event, "{first}");
+    for first in [0, 11] {
+        assert!(rt; goes_on(4, first, &ROUND_OF_FOUR), "{first}");
     }
+}
+
+/// What a round begins with, before its slaves.
+static BEFORE_THE_SLAVES: [Event; 6] = [
+    Event::Restart,
+    Event::Serial,
+    Event::Master,
+    Event::Master,
+    Event::Master,
+    Event::Master,
+];
+
+/// Whether rounds over all slaves have each slave in turn from this number on.
+fn goes_through_slaves(from: u64) -> bool {
+    for slave in 0_u8..64 {
+        if round(64, from.wrapping_add(u64::from(slave))) != Event::Slave(slave) {
+            return false;
+        }
+    }
+    true
 }
 
 #[test]
 fn goes_round_all_slaves(rt: HostRuntime) {
-    let head = [
-        Event::Restart,
-        Event::Serial,
-        Event::Master,
-        Event::Master,
-        Event::Master,
-        Event::Master,
-    ];
-    for start in [0_u64, 71] {
-        for (place, event) in head.iter().enumerate() {
-            assert_eq!(rt; round(64, start + place as u64), *event);
-        }
-        for number in 0_u8..64 {
-            let place = start + 6 + u64::from(number);
-            assert_eq!(rt; round(64, place), Event::Slave(number));
-        }
-        assert_eq!(rt; round(64, start + 70), Event::Commit);
+    for first in [0_u64, 71] {
+        let is_round = goes_on(64, first, &BEFORE_THE_SLAVES)
+            && goes_through_slaves(first + 6)
+            && goes_on(64, first + 70, &[Event::Commit]);
+        assert!(rt; is_round, "{first}");
     }
     // 2 ^ 64 - 1 is 9 modulo 71.
     assert_eq!(rt; round(64, u64::MAX), Event::Slave(3));

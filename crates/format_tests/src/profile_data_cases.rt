@@ -40,76 +40,153 @@ static TWO_TARGETS: [u32; 22] = [
     0xFFFF_FFFC,
 ];
 
+/// The profile of a file of these numbers.
+fn profile(alloc: Global, numbers: &[u32]) -> Result<Profile, ProfileErr> {
+    read_profile(alloc, &bytes_of(alloc, numbers)?)
+}
+
 /// How a file of these numbers is refused.
-fn refusal(alloc: Global, numbers: &[u32]) -> Result<Option<ProfileErr>, AllocError> {
+fn refusal(alloc: Global, numbers: &[u32]) -> Option<ProfileErr> {
+    profile(alloc, numbers).err()
+}
+
+/// Whether a file of these numbers is what is written for a profile.
+fn is_file_of(alloc: Global, profile: &Profile, numbers: &[u32]) -> Result<bool, AllocError> {
+    let written = write_profile(alloc, profile)?;
     let bytes = bytes_of(alloc, numbers)?;
-    Ok(read_profile(alloc, &bytes).err())
+    Ok(written.as_slice() == bytes.as_slice())
+}
+
+/// Whether a file of these numbers is written again as it was.
+fn is_written_again(alloc: Global, numbers: &[u32]) -> Result<bool, ProfileErr> {
+    let profile = profile(alloc, numbers)?;
+    Ok(is_file_of(alloc, &profile, numbers)?)
+}
+
+/// A profile's steps, whether its run has ended, and how many rows it has.
+type About = (u64, bool, u32);
+
+/// What there is about a profile.
+fn about(profile: &Profile) -> About {
+    (profile.steps(), profile.ended(), profile.len())
+}
+
+/// How often the instruction of an address was executed and taken.
+fn counts(profile: &Profile, pc: u32) -> Option<(u64, u64)> {
+    let row = profile.row(pc)?;
+    Some((row.executed, row.taken))
+}
+
+/// The address of the row of this number.
+fn address(profile: &Profile, number: u32) -> Option<u32> {
+    Some(profile.at(number)?.pc)
+}
+
+/// Whether bytes that the instruction of the row of this number stored were read, and whether it was changed.
+fn flags(profile: &Profile, number: u32) -> Option<(bool, bool)> {
+    let row = profile.at(number)?;
+    Some((row.read, row.changed))
+}
+
+/// The last target of the row of an address.
+fn last_target(profile: &Profile, pc: u32) -> Option<u32> {
+    profile.row(pc)?.targets.last().copied()
+}
+
+/// What there is about the profile of nine rows, and the counts of one of them.
+fn about_nine_rows(alloc: Global) -> Result<(About, Option<(u64, u64)>), ProfileErr> {
+    let profile = profile(alloc, &COMPARE_LOOP_PROFILE)?;
+    Ok((about(&profile), counts(&profile, 0x1_0010)))
 }
 
 #[test]
 fn reads_nine_rows(rt: HostRuntime) -> Result<(), Fail> {
-    let bytes = bytes_of(rt.alloc(), &COMPARE_LOOP_PROFILE)?;
-    let profile = read_profile(rt.alloc(), &bytes)?;
-    assert_eq!(rt;
-        (profile.steps(), profile.ended(), profile.len()),
-        (45, true, 9)
-    );
-    let counts = profile.row(0x1_0010).map(|row| (row.executed, row.taken));
+    let (about, counts) = about_nine_rows(rt.alloc())?;
+    assert_eq!(rt; about, (45, true, 9));
     assert_eq!(rt; counts, Some((10, 9)));
     Ok(())
 }
 
+/// The addresses of the rows that are found: by an address that has no row, by the number of the seventh row,
+/// and by the number after that of the ninth.
+fn found_of_nine_rows(alloc: Global) -> Result<[Option<u32>; 3], ProfileErr> {
+    let profile = profile(alloc, &COMPARE_LOOP_PROFILE)?;
+    let absent = profile.row(0x1_0018).map(|row| row.pc);
+    Ok([absent, address(&profile, 6), address(&profile, 9)])
+}
+
 #[test]
 fn finds_and_writes_nine_rows(rt: HostRuntime) -> Result<(), Fail> {
-    let bytes = bytes_of(rt.alloc(), &COMPARE_LOOP_PROFILE)?;
-    let profile = read_profile(rt.alloc(), &bytes)?;
-    let absent = profile.row(0x1_0018).map(|row| row.pc);
-    let seventh = profile.at(6).map(|row| row.pc);
-    let past = profile.at(9).map(|row| row.pc);
-    assert_eq!(rt; (absent, seventh, past), (None, Some(0x1_001C), None));
-    let written = write_profile(rt.alloc(), &profile)?;
-    assert_eq!(rt; written.as_slice(), bytes.as_slice());
+    let found = found_of_nine_rows(rt.alloc())?;
+    assert_eq!(rt; found, [None, Some(0x1_001C), None]);
+    assert!(rt; is_written_again(rt.alloc(), &COMPARE_LOOP_PROFILE)?);
     Ok(())
+}
+
+/// The flags of the two rows, and the last target of the second.
+fn found_of_two_targets(
+    alloc: Global,
+) -> Result<([Option<(bool, bool)>; 2], Option<u32>), ProfileErr> {
+    let profile = profile(alloc, &TWO_TARGETS)?;
+    let both = [flags(&profile, 0), flags(&profile, 1)];
+    Ok((both, last_target(&profile, 4)))
 }
 
 #[test]
 fn reads_and_writes_targets(rt: HostRuntime) -> Result<(), Fail> {
-    let bytes = bytes_of(rt.alloc(), &TWO_TARGETS)?;
-    let profile = read_profile(rt.alloc(), &bytes)?;
-    let first = profile.at(0).map(|row| (row.read, row.changed));
-    let second = profile.at(1).map(|row| (row.read, row.changed));
-    assert_eq!(rt; (first, second), (Some((true, false)), Some((false, true))));
-    let last = profile.row(4).map(|row| row.targets.last().copied());
-    assert_eq!(rt; last, Some(Some(0xFFFF_FFFC)));
-    let written = write_profile(rt.alloc(), &profile)?;
-    assert_eq!(rt; written.as_slice(), bytes.as_slice());
+    let (both, last) = found_of_two_targets(rt.alloc())?;
+    assert_eq!(rt; both, [Some((true, false)), Some((false, true))]);
+    assert_eq!(rt; last, Some(0xFFFF_FFFC));
+    assert!(rt; is_written_again(rt.alloc(), &TWO_TARGETS)?);
     Ok(())
+}
+
+/// The file of a profile without rows, of a run without steps that goes on.
+static NO_ROWS: [u32; 6] = [MAGIC, 1, 0, 0, 0, 0];
+
+/// That profile.
+fn no_rows(alloc: Global) -> Profile {
+    Profile::new(0, false, IndexMap::new(alloc))
+}
+
+/// How many rows it has, and whether it is written as that file.
+fn made_without_rows(alloc: Global) -> Result<(u32, bool), AllocError> {
+    let profile = no_rows(alloc);
+    Ok((profile.len(), is_file_of(alloc, &profile, &NO_ROWS)?))
+}
+
+/// What there is about the profile that is read from that file.
+fn read_without_rows(alloc: Global) -> Result<About, ProfileErr> {
+    let profile = profile(alloc, &NO_ROWS)?;
+    Ok(about(&profile))
 }
 
 #[test]
 fn makes_a_profile_without_rows(rt: HostRuntime) -> Result<(), Fail> {
-    let profile = Profile::new(0, false, IndexMap::new(rt.alloc()));
-    assert_eq!(rt; profile.len(), 0);
-    let written = write_profile(rt.alloc(), &profile)?;
-    let want = bytes_of(rt.alloc(), &[MAGIC, 1, 0, 0, 0, 0])?;
-    assert_eq!(rt; written.as_slice(), want.as_slice());
-    let read = read_profile(rt.alloc(), &written)?;
-    assert_eq!(rt; (read.steps(), read.ended(), read.len()), (0, false, 0));
+    assert_eq!(rt; made_without_rows(rt.alloc())?, (0, true));
+    assert_eq!(rt; read_without_rows(rt.alloc())?, (0, false, 0));
     Ok(())
+}
+
+/// The length of the first front of a file that isn't refused as too short.
+fn long_front(alloc: Global, file: &[u8]) -> Option<usize> {
+    for length in 0..file.len() {
+        if read_profile(alloc, &file[..length]).err() != Some(ProfileErr::Short) {
+            return Some(length);
+        }
+    }
+    None
+}
+
+/// That length of a file of these numbers.
+fn long_front_of(alloc: Global, numbers: &[u32]) -> Result<Option<usize>, AllocError> {
+    Ok(long_front(alloc, &bytes_of(alloc, numbers)?))
 }
 
 #[test]
 fn a_prefix_ends_early(rt: HostRuntime) -> Result<(), Fail> {
-    let bytes = bytes_of(rt.alloc(), &TWO_TARGETS)?;
-    for length in 0..bytes.len() {
-        let answer = read_profile(rt.alloc(), &bytes[..length]);
-        assert_eq!(rt; answer.err(), Some(ProfileErr::Short), "{length} bytes");
-    }
-    let bytes = bytes_of(rt.alloc(), &COMPARE_LOOP_PROFILE)?;
-    for length in 0..bytes.len() {
-        let answer = read_profile(rt.alloc(), &bytes[..length]);
-        assert_eq!(rt; answer.err(), Some(ProfileErr::Short), "{length} bytes");
-    }
+    assert_eq!(rt; long_front_of(rt.alloc(), &TWO_TARGETS)?, None);
+    assert_eq!(rt; long_front_of(rt.alloc(), &COMPARE_LOOP_PROFILE)?, None);
     Ok(())
 }
 
@@ -127,20 +204,17 @@ static REFUSES_HEADERS_CASES: [(&[u32], ProfileErr); 10] = [
 ];
 
 #[test]
-fn refuses_headers(rt: HostRuntime) -> Result<(), Fail> {
+fn refuses_headers(rt: HostRuntime) {
     for &(numbers, want) in &REFUSES_HEADERS_CASES {
-        assert_eq!(rt; refusal(rt.alloc(), numbers)?, Some(want), "{numbers:?}");
+        assert_eq!(rt; refusal(rt.alloc(), numbers), Some(want), "{numbers:?}");
     }
-    Ok(())
 }
 
 /// How a file of one row of 9 steps is refused, with its numbers from its address on.
 fn row_refusal(alloc: Global, row: &[u32]) -> Result<Option<ProfileErr>, AllocError> {
-    let mut bytes = bytes_of(alloc, &[MAGIC, 1, 9, 0, 0, 1])?;
-    for number in row {
-        bytes.extend_from_slice(&number.to_le_bytes())?;
-    }
-    Ok(read_profile(alloc, &bytes).err())
+    let mut numbers = Vec::from_slice(alloc, &[MAGIC, 1, 9, 0, 0, 1])?;
+    numbers.extend_from_slice(row)?;
+    Ok(refusal(alloc, &numbers))
 }
 
 static REFUSES_ROWS_CASES: [(&[u32], ProfileErr); 14] = [
@@ -192,14 +266,10 @@ fn second_refusal(
     row: &[u32],
 ) -> Result<Option<ProfileErr>, AllocError> {
     let [low, high] = executed;
-    let mut bytes = bytes_of(alloc, &[MAGIC, 1, ALL, ALL, 0, 2])?;
-    for number in &[4, 0, low, high, 0, 0, 0] {
-        bytes.extend_from_slice(&number.to_le_bytes())?;
-    }
-    for number in row {
-        bytes.extend_from_slice(&number.to_le_bytes())?;
-    }
-    Ok(read_profile(alloc, &bytes).err())
+    let first = [MAGIC, 1, ALL, ALL, 0, 2, 4, 0, low, high, 0, 0, 0];
+    let mut numbers = Vec::from_slice(alloc, &first)?;
+    numbers.extend_from_slice(row)?;
+    Ok(refusal(alloc, &numbers))
 }
 
 /// The most that eight bytes count to.
@@ -225,23 +295,28 @@ fn refuses_second_rows(rt: HostRuntime) -> Result<(), Fail> {
     Ok(())
 }
 
+/// A row with one target, and one with 1,048,576 of them.
+static TOO_MANY_TARGETS: [u32; 21] = [
+    MAGIC, 1, 2, 0, 0, 2, //
+    4, 0, 1, 0, 0, 0, 1, 8, //
+    8, 0, 1, 0, 0, 0, 1_048_576,
+];
+
 #[test]
-fn targets_are_counted_over_all_rows(rt: HostRuntime) -> Result<(), Fail> {
-    let mut bytes = bytes_of(rt.alloc(), &[MAGIC, 1, 2, 0, 0, 2])?;
-    for number in &[4, 0, 1, 0, 0, 0, 1, 8_u32] {
-        bytes.extend_from_slice(&number.to_le_bytes())?;
-    }
-    for number in &[8, 0, 1, 0, 0, 0, 1_048_576_u32] {
-        bytes.extend_from_slice(&number.to_le_bytes())?;
-    }
-    let answer = read_profile(rt.alloc(), &bytes);
-    assert_eq!(rt; answer.err(), Some(ProfileErr::TooMany));
-    Ok(())
+fn targets_are_counted_over_all_rows(rt: HostRuntime) {
+    let answer = refusal(rt.alloc(), &TOO_MANY_TARGETS);
+    assert_eq!(rt; answer, Some(ProfileErr::TooMany));
+}
+
+/// Whether an error has this text.
+fn is_text(alloc: Global, err: ProfileErr, text: &str) -> Result<bool, AllocError> {
+    let found = format!(in alloc; "{}", err)?;
+    Ok(found.as_str() == text)
 }
 
 #[test]
 fn errors_have_texts(rt: HostRuntime) -> Result<(), Fail> {
-    let text = format!(in rt.alloc(); "{}", ProfileErr::Twice(3))?;
-    assert_eq!(rt; text.as_str(), "row 3 has the address of an earlier row");
+    let text = "row 3 has the address of an earlier row";
+    assert!(rt; is_text(rt.alloc(), ProfileErr::Twice(3), text)?);
     Ok(())
 }

@@ -1,8 +1,14 @@
 //! Images of version 2 as bytes, both ways, and each refusal.
 
-use crate::dist_image_cases::MAGIC;
-use dist_image::{Assumption, ImageErr, Slot, Table, prints_at, read_image, write_image};
+ghost use Rattle.dist_image.specs.Image.{IsImage};
+
+use crate::dist_image_cases::{
+    MAGIC, about, about_lengths, are_written_again, has_slots, is_written_again, refusal,
+};
+use dist_image::{Assumption, Image, ImageErr, Slot, Table, prints_at, read_image};
+use std::alloc::{AllocError, Global};
 use std::test::Fail;
+use test_programs::images::image;
 use test_programs::programs::bytes_of;
 
 /// A task that begins at 00010000, and may print at 00010014.
@@ -151,69 +157,68 @@ static PRINTS_ONCE: [u32; 90] = [
     0x1_0014,
 ];
 
+/// Whether a task may print at an address of that image.
+fn prints(alloc: Global, pc: u32) -> Result<bool, ImageErr> {
+    let image = image(alloc, &ONE_WRITE)?;
+    Ok(prints_at(&image, pc))
+}
+
 #[test]
 fn reads_and_writes_one_write(rt: HostRuntime) -> Result<(), Fail> {
-    let bytes = bytes_of(rt.alloc(), &ONE_WRITE)?;
-    let image = read_image(rt.alloc(), &bytes)?;
-    let prints = (prints_at(&image, 0x1_0014), prints_at(&image, 0x1_0000));
-    let written = write_image(rt.alloc(), &image)?;
-    assert_eq!(rt; (prints, written.len()), ((true, false), 88));
-    assert_eq!(rt; written.as_slice(), bytes.as_slice());
+    let prints = (prints(rt.alloc(), 0x1_0014)?, prints(rt.alloc(), 0x1_0000)?);
+    assert_eq!(rt; prints, (true, false));
+    assert!(rt; are_written_again(rt.alloc(), &ONE_WRITE, 88)?);
     Ok(())
+}
+
+/// The slots of that image.
+static SLOTS_OF_ONE_WRITE: [Slot; 2] = [
+    Slot::Fork { anchor: 0 },
+    Slot::Exec {
+        origin: 0x1_0014,
+        word: 0x73,
+    },
+];
+
+/// What there is about that image, and whether it has those slots and that write.
+fn about_one_write(alloc: Global) -> Result<((u32, u32, (usize, usize)), bool), ImageErr> {
+    let image = image(alloc, &ONE_WRITE)?;
+    let has_all = has_slots(&image, &SLOTS_OF_ONE_WRITE)
+        && image.writes.as_slice() == [0x1_0014].as_slice();
+    Ok((about(&image), has_all))
 }
 
 #[test]
 fn reads_one_write(rt: HostRuntime) -> Result<(), Fail> {
-    let bytes = bytes_of(rt.alloc(), &ONE_WRITE)?;
-    let image = read_image(rt.alloc(), &bytes)?;
-    let count = image.assumptions.len();
-    assert_eq!(rt; (image.version, image.limit, count), (2, 16, 0));
-    let exec = Slot::Exec {
-        origin: 0x1_0014,
-        word: 0x73,
-    };
-    assert_eq!(rt;
-        image.slots.as_slice(),
-        [Slot::Fork { anchor: 0 }, exec].as_slice()
-    );
-    assert_eq!(rt; image.writes.as_slice(), [0x1_0014].as_slice());
+    let found = about_one_write(rt.alloc())?;
+    assert_eq!(rt; found, ((2, 16, (0, 1)), true));
     Ok(())
 }
 
-#[test]
-fn the_greatest_limit_is_below_that_of_version_1(rt: HostRuntime) -> Result<(), Fail> {
+/// The limit of the image of one write, or its refusal, where this stands in place of its limit.
+fn limit_of(alloc: Global, limit: u32) -> Result<u32, ImageErr> {
     let mut numbers = ONE_WRITE;
-    numbers[2] = 4_096;
-    let bytes = bytes_of(rt.alloc(), &numbers)?;
-    assert_eq!(rt; read_image(rt.alloc(), &bytes)?.limit, 4_096);
-    numbers[2] = 4_097;
-    let bytes = bytes_of(rt.alloc(), &numbers)?;
-    assert_eq!(rt; read_image(rt.alloc(), &bytes).err(), Some(ImageErr::Limit));
-    Ok(())
+    numbers[2] = limit;
+    Ok(image(alloc, &numbers)?.limit)
+}
+
+#[test]
+fn the_greatest_limit_is_below_that_of_version_1(rt: HostRuntime) {
+    let limits = (limit_of(rt.alloc(), 4_096), limit_of(rt.alloc(), 4_097));
+    assert_eq!(rt; limits, (Ok(4_096), Err(ImageErr::Limit)));
 }
 
 #[test]
 fn reads_and_writes_whole_images(rt: HostRuntime) -> Result<(), Fail> {
-    let files: [(&[u32], usize); 2] = [(&PASSED_STORE, 156), (&PRINTS_ONCE, 360)];
-    for (numbers, size) in files {
-        let bytes = bytes_of(rt.alloc(), numbers)?;
-        let image = read_image(rt.alloc(), &bytes)?;
-        let written = write_image(rt.alloc(), &image)?;
-        assert_eq!(rt; written.len(), size);
-        assert_eq!(rt; written.as_slice(), bytes.as_slice());
-    }
+    assert!(rt; are_written_again(rt.alloc(), &PASSED_STORE, 156)?);
+    assert!(rt; are_written_again(rt.alloc(), &PRINTS_ONCE, 360)?);
     Ok(())
 }
 
 #[test]
 fn each_front_of_a_file_is_short(rt: HostRuntime) -> Result<(), Fail> {
-    let mut bytes = bytes_of(rt.alloc(), &PRINTS_ONCE)?;
-    for length in 0..bytes.len() {
-        let answer = read_image(rt.alloc(), &bytes[..length]);
-        assert_eq!(rt; answer.err(), Some(ImageErr::Short), "{length} bytes");
-    }
-    bytes.push(0)?;
-    assert_eq!(rt; read_image(rt.alloc(), &bytes).err(), Some(ImageErr::Long));
+    let lengths = about_lengths(rt.alloc(), &PRINTS_ONCE)?;
+    assert_eq!(rt; lengths, (None, Some(ImageErr::Long)));
     Ok(())
 }
 
@@ -245,42 +250,71 @@ static ONE_VALUE_EACH: [u32; 24] = [
     0,
 ];
 
+/// Whether the last assumption of that image is the second of them.
+fn ends_with_a_load(alloc: Global) -> Result<bool, ImageErr> {
+    let image = image(alloc, &ONE_VALUE_EACH)?;
+    Ok(matches!(
+        image.assumptions.last(),
+        Some(Assumption::Same {
+            at: 0x1_000C,
+            value: 0xFFFF_FF80
+        })
+    ))
+}
+
 #[test]
 fn reads_and_writes_loads_of_one_value(rt: HostRuntime) -> Result<(), Fail> {
-    let bytes = bytes_of(rt.alloc(), &ONE_VALUE_EACH)?;
-    let image = read_image(rt.alloc(), &bytes)?;
-    let last = image.assumptions.last();
-    assert!(rt;
-        matches!(
-            last,
-            Some(Assumption::Same {
-                at: 0x1_000C,
-                value: 0xFFFF_FF80
-            })
-        )
-    );
-    let written = write_image(rt.alloc(), &image)?;
-    assert_eq!(rt; written.as_slice(), bytes.as_slice());
+    assert!(rt; ends_with_a_load(rt.alloc())?);
+    assert!(rt; are_written_again(rt.alloc(), &ONE_VALUE_EACH, 96)?);
     Ok(())
 }
 
-/// As many writes as an image can have, at every second address of an instruction.
-#[test]
-fn reads_and_writes_the_most_writes(rt: HostRuntime) -> Result<(), Fail> {
-    let mut bytes = bytes_of(rt.alloc(), &[MAGIC, 2, 16, 0, 0, 0, 0, 524_288])?;
+/// A file with as many writes as an image can have, at every second address of an instruction.
+fn most_writes(alloc: Global) -> Result<Vec<u8>, AllocError> {
+    let mut bytes = bytes_of(alloc, &[MAGIC, 2, 16, 0, 0, 0, 0, 524_288])?;
     for number in 0..524_288_u32 {
         bytes.extend_from_slice(&(8 * number).to_le_bytes())?;
     }
-    let image = read_image(rt.alloc(), &bytes)?;
-    assert_eq!(rt; image.writes.len(), 524_288);
-    for pc in [0, 8, 0x20_0000, 0x3F_FFF8] {
-        assert!(rt; prints_at(&image, pc), "{pc}");
+    Ok(bytes)
+}
+
+/// The first of these addresses where an image's tasks may print, if that is asked for, or else may not.
+fn first_where(image: &Image, prints: bool, addresses: &[u32]) -> Option<u32>
+    requires { IsImage image.now }
+{
+    for &pc in addresses {
+        if prints_at(image, pc) == prints {
+            return Some(pc);
+        }
     }
-    for pc in [4, 0x1F_FFFC, 0x3F_FFFC, 0x40_0000, 0xFFFF_FFFC] {
-        assert!(rt; !prints_at(&image, pc), "{pc}");
-    }
-    let written = write_image(rt.alloc(), &image)?;
-    assert!(rt; written.as_slice() == bytes.as_slice());
+    None
+}
+
+/// Addresses of writes of that file.
+static PRINT: [u32; 4] = [0, 8, 0x20_0000, 0x3F_FFF8];
+
+/// Addresses at which it has no write.
+static PRINT_NOT: [u32; 5] = [4, 0x1F_FFFC, 0x3F_FFFC, 0x40_0000, 0xFFFF_FFFC];
+
+/// How many writes that image has, and the first address that is in the other of those two tables.
+fn about_most_writes(alloc: Global, file: &[u8]) -> Result<(usize, [Option<u32>; 2]), ImageErr> {
+    let image = read_image(alloc, file)?;
+    let silent = first_where(&image, false, &PRINT);
+    let printing = first_where(&image, true, &PRINT_NOT);
+    Ok((image.writes.len(), [silent, printing]))
+}
+
+/// The same of the image of that file, and whether the file is written again as it was.
+fn most_writes_come_to(alloc: Global) -> Result<((usize, [Option<u32>; 2]), bool), ImageErr> {
+    let file = most_writes(alloc)?;
+    let about = about_most_writes(alloc, &file)?;
+    Ok((about, is_written_again(alloc, &file)?))
+}
+
+#[test]
+fn reads_and_writes_the_most_writes(rt: HostRuntime) -> Result<(), Fail> {
+    let found = most_writes_come_to(rt.alloc())?;
+    assert_eq!(rt; found, ((524_288, [None, None]), true));
     Ok(())
 }
 
@@ -406,12 +440,7 @@ static REFUSALS: [(&[u32], ImageErr); 38] = [
 #[test]
 fn answers_the_first_refusal_of_version_2(rt: HostRuntime) -> Result<(), Fail> {
     for &(numbers, want) in &REFUSALS {
-        let bytes = bytes_of(rt.alloc(), numbers)?;
-        assert_eq!(rt;
-            read_image(rt.alloc(), &bytes).err(),
-            Some(want),
-            "{numbers:?}"
-        );
+        assert_eq!(rt; refusal(rt.alloc(), numbers)?, Some(want), "{numbers:?}");
     }
     Ok(())
 }

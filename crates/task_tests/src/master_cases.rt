@@ -79,6 +79,45 @@ fn turning(alloc: Global) -> Result<Arch<PlainMemory>, AllocError> {
     Ok(arch)
 }
 
+/// A master that begins at this anchor of that program.
+fn begun(alloc: Global, anchor: &Anchor) -> Result<Master<PlainMemory>, AllocError>
+    requires { anchor.now.slot < 1_048_576 }
+{
+    Master::begin(alloc, anchor, &turning(alloc)?)
+}
+
+/// The anchor at which a master is about to begin a task, if it is, and what it does then.
+fn go_on(
+    alloc: Global,
+    master: &mut Master<PlainMemory>,
+    image: &Image,
+    room: bool,
+) -> Result<(Option<u32>, MasterDid), AllocError>
+    requires { IsImage image.now }
+{
+    let next = master.next_spawn(image);
+    Ok((next, master.advance(alloc, image, room)?))
+}
+
+/// Whether that is the same so many times in turn.
+fn goes_on(
+    alloc: Global,
+    master: &mut Master<PlainMemory>,
+    image: &Image,
+    room: bool,
+    times: u32,
+    want: (Option<u32>, MasterDid),
+) -> Result<bool, AllocError>
+    requires { IsImage image.now }
+{
+    for _ in 0..times {
+        if go_on(alloc, master, image, room)? != want {
+            return Ok(false);
+        }
+    }
+    Ok(true)
+}
+
 /// For the program of ten turns: a task has two of its turns.
 const TWO_TURNS: Anchor = Anchor {
     pc: TURN,
@@ -86,24 +125,28 @@ const TWO_TURNS: Anchor = Anchor {
     count: 2,
 };
 
+/// What a master does, at which anchor it is about to begin a task after that, and its x5.
+type Then = (MasterDid, Option<u32>, u32);
+
+/// Whether a master of the ten turns moves five times where there is room, and stalls twice where there is
+/// none; and what it does then where there is room again.
+fn at_the_second_arrival(alloc: Global) -> Result<(bool, Then), Fail> {
+    let image = image_of(alloc, &TEN_TURNS)?;
+    let mut master = begun(alloc, &TWO_TURNS)?;
+    let moved = (None, MasterDid::Moved);
+    let moves = goes_on(alloc, &mut master, &image, true, 5, moved)?;
+    let stalled = (Some(0), MasterDid::Stalled);
+    let stalls = goes_on(alloc, &mut master, &image, false, 2, stalled)?;
+    let (_, did) = go_on(alloc, &mut master, &image, true)?;
+    let then = (did, master.next_spawn(&image), master.regs()[5]);
+    Ok((moves && stalls, then))
+}
+
 #[test]
 fn spawns_at_the_second_arrival(rt: HostRuntime) -> Result<(), Fail> {
-    let alloc = rt.alloc();
-    let image = image_of(alloc, &TEN_TURNS)?;
-    let mut master = Master::begin(alloc, &TWO_TURNS, &turning(alloc)?)?;
-    for _ in 0..5 {
-        let before = master.next_spawn(&image);
-        let did = master.advance(alloc, &image, true)?;
-        assert_eq!(rt; (before, did), (None, MasterDid::Moved));
-    }
-    for _ in 0..2 {
-        let before = master.next_spawn(&image);
-        let did = master.advance(alloc, &image, false)?;
-        assert_eq!(rt; (before, did), (Some(0), MasterDid::Stalled));
-    }
-    let did = master.advance(alloc, &image, true)?;
-    let after = (did, master.next_spawn(&image), master.regs()[5]);
-    assert_eq!(rt; after, (MasterDid::Spawned(0), None, 8));
+    let (is_so, then) = at_the_second_arrival(rt.alloc())?;
+    assert!(rt; is_so);
+    assert_eq!(rt; then, (MasterDid::Spawned(0), None, 8));
     Ok(())
 }
 
@@ -129,69 +172,87 @@ static HALTS: [(u32, Why); 8] = [
     (0x0080_02ef, Why::Lost),
 ];
 
-// x5 is 10, which is where the store would go.
+/// Whether a master that comes to this word halts twice for this reason, and is as it was: x5 is 10, which
+/// is where the store would go.
+fn halts(alloc: Global, word: u32, why: Why) -> Result<bool, Fail> {
+    let image = image(alloc, 16, &[FORK, exec(TURN, word)], FIRST, &[(TURN, 0)])?;
+    let mut master = begun(alloc, &FIRST)?;
+    for _ in 0..2 {
+        let (_, did) = go_on(alloc, &mut master, &image, true)?;
+        if did != MasterDid::Halted(why) {
+            return Ok(false);
+        }
+    }
+    Ok(master.regs()[5] == 10 && master.mem().word(10) == 0)
+}
+
 #[test]
 fn halts_and_is_as_it_was(rt: HostRuntime) -> Result<(), Fail> {
-    let alloc = rt.alloc();
     for &(word, why) in &HALTS {
-        let image = image(alloc, 16, &[FORK, exec(TURN, word)], FIRST, &[(TURN, 0)])?;
-        let mut master = Master::begin(alloc, &FIRST, &turning(alloc)?)?;
-        for _ in 0..2 {
-            let did = master.advance(alloc, &image, true)?;
-            assert_eq!(rt; did, MasterDid::Halted(why), "{word:08x}");
-        }
-        let left = (master.regs()[5], master.mem().word(10));
-        assert_eq!(rt; left, (10, 0), "{word:08x}");
+        assert!(rt; halts(rt.alloc(), word, why)?, "{word:08x}");
     }
     Ok(())
+}
+
+/// What a master does first that has these slots, and a note of the first of them.
+fn first_did(alloc: Global, slots: &[SlotNumbers]) -> Result<MasterDid, Fail>
+    requires { length slots.now < 100 }
+{
+    let image = image(alloc, 16, slots, FIRST, &[(TURN, 0)])?;
+    let mut master = begun(alloc, &FIRST)?;
+    let (_, did) = go_on(alloc, &mut master, &image, true)?;
+    Ok(did)
 }
 
 // A Go to a pc without a note, and a Fork in the last slot.
 #[test]
 fn is_lost_without_a_slot(rt: HostRuntime) -> Result<(), Fail> {
-    let alloc = rt.alloc();
-    let slots = [FORK, go(0x1_0008)];
-    for shown in [slots.as_slice(), &slots[..1]] {
-        let image = image(alloc, 16, shown, FIRST, &[(TURN, 0)])?;
-        let mut master = Master::begin(alloc, &FIRST, &turning(alloc)?)?;
-        let did = master.advance(alloc, &image, true)?;
-        assert_eq!(rt; did, MasterDid::Halted(Why::Lost));
-    }
+    let to_nowhere = first_did(rt.alloc(), &[FORK, go(0x1_0008)])?;
+    let past_the_last = first_did(rt.alloc(), &[FORK])?;
+    let lost = MasterDid::Halted(Why::Lost);
+    assert_eq!(rt; (to_nowhere, past_the_last), (lost, lost));
     Ok(())
+}
+
+/// Whether a master with these slots, whose task has so many arrivals, moves 68 times and has spent its slots
+/// then.
+fn is_spent(
+    alloc: Global,
+    count: u32,
+    slots: &[SlotNumbers],
+    notes: &[(u32, u32)],
+) -> Result<bool, Fail>
+    requires slots { length slots.now < 100 }
+    requires notes { length notes.now < 100 }
+{
+    let anchor = Anchor { count, ..FIRST };
+    let image = image(alloc, 16, slots, anchor, notes)?;
+    let mut master = begun(alloc, &anchor)?;
+    for _ in 0..68 {
+        let (_, did) = go_on(alloc, &mut master, &image, false)?;
+        if did != MasterDid::Moved {
+            return Ok(false);
+        }
+    }
+    let spent = go_on(alloc, &mut master, &image, false)?;
+    Ok(spent == (None, MasterDid::Halted(Why::Spent)))
 }
 
 // With a limit of 16 steps a master has 68 slots: in a Go to itself, and in a ring of a Fork and two
 // Gos, where the 69th slot would be a Fork that begins a task.
 #[test]
 fn spends_its_slots(rt: HostRuntime) -> Result<(), Fail> {
-    let alloc = rt.alloc();
-    let rings = [
-        (1, [FORK, go(TURN), go(TURN)], [(TURN, 1), (0x1_0008, 2)]),
-        (
-            23,
-            [FORK, go(0x1_0008), go(TURN)],
-            [(TURN, 0), (0x1_0008, 2)],
-        ),
-    ];
-    for (count, slots, notes) in rings {
-        let anchor = Anchor { count, ..FIRST };
-        let image = image(alloc, 16, &slots, anchor, &notes)?;
-        let mut master = Master::begin(alloc, &anchor, &turning(alloc)?)?;
-        for _ in 0..68 {
-            assert_eq!(rt; master.advance(alloc, &image, false)?, MasterDid::Moved);
-        }
-        let next = master.next_spawn(&image);
-        let did = master.advance(alloc, &image, false)?;
-        assert_eq!(rt; (next, did), (None, MasterDid::Halted(Why::Spent)));
-    }
+    let alone = [FORK, go(TURN), go(TURN)];
+    assert!(rt; is_spent(rt.alloc(), 1, &alone, &[(TURN, 1), (0x1_0008, 2)])?);
+    let ring = [FORK, go(0x1_0008), go(TURN)];
+    assert!(rt; is_spent(rt.alloc(), 23, &ring, &[(TURN, 0), (0x1_0008, 2)])?);
     Ok(())
 }
 
-// AUIPC at another origin, a store of x5 to where it points, and a load from there. The program has
-// no words there, and its own state doesn't see the store.
-#[test]
-fn works_at_the_origin_on_its_own_memory(rt: HostRuntime) -> Result<(), Fail> {
-    let alloc = rt.alloc();
+/// The image of AUIPC at another origin, a store of x5 to where it points, and a load from there.
+fn far_image(alloc: Global) -> Result<Image, ImageErr>
+    ensures { IfOk result IsImage }
+{
     let slots = [
         FORK,
         exec(0x2_0000, 0x0000_0297),
@@ -199,16 +260,40 @@ fn works_at_the_origin_on_its_own_memory(rt: HostRuntime) -> Result<(), Fail> {
         exec(0x2_0008, 0x0002_a303),
     ];
     let notes = [(TURN, 0), (0x2_0004, 2), (0x2_0008, 3), (0x2_000c, 0)];
-    let image = image(alloc, 16, &slots, FIRST, &notes)?;
+    image(alloc, 16, &slots, FIRST, &notes)
+}
+
+/// The word at 0x00020000 of a state's memory.
+fn far_word(mem: &PlainMemory) -> u32 {
+    mem.word(0x2_0000)
+}
+
+/// Whether a master moves three times by that image, and is about to begin its task then; and what x5 and x6
+/// are then, and the word at 0x00020000 in its memory and in that of the state where it began.
+fn far_off(alloc: Global) -> Result<(bool, [u32; 4]), Fail> {
+    let image = far_image(alloc)?;
     let arch = turning(alloc)?;
     let mut master = Master::begin(alloc, &FIRST, &arch)?;
-    for _ in 0..3 {
-        assert_eq!(rt; master.advance(alloc, &image, true)?, MasterDid::Moved);
-    }
-    let registers = (master.regs()[5], master.regs()[6]);
-    assert_eq!(rt; registers, (0x2_0000, 0x2_0000));
-    let words = (master.mem().word(0x2_0000), arch.mem.word(0x2_0000));
-    let next = master.next_spawn(&image);
-    assert_eq!(rt; (words, next), ((0x2_0000, 0), Some(0)));
+    let moves = goes_on(
+        alloc,
+        &mut master,
+        &image,
+        true,
+        3,
+        (None, MasterDid::Moved),
+    )?;
+    let is_so = moves && master.next_spawn(&image) == Some(0);
+    let [five, six] = [master.regs()[5], master.regs()[6]];
+    Ok((
+        is_so,
+        [five, six, far_word(master.mem()), far_word(&arch.mem)],
+    ))
+}
+
+// The program has no words there, and its own state doesn't see the store.
+#[test]
+fn works_at_the_origin_on_its_own_memory(rt: HostRuntime) -> Result<(), Fail> {
+    let found = far_off(rt.alloc())?;
+    assert_eq!(rt; found, (true, [0x2_0000, 0x2_0000, 0x2_0000, 0]));
     Ok(())
 }

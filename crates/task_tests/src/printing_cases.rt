@@ -1,5 +1,5 @@
 //! What no clause says: what tasks that print come to on programs of one or two words whose calls were worked out by hand.
-use crate::slave_cases::{FIRST, START, begun, differ, events, stand, start, told};
+use crate::slave_cases::{FIRST, START, Stand, apply, begun, differ, events, stand, start, told};
 use cells::{Cell, Differ};
 use memory::PlainMemory;
 use rv_step::{Arch, Memory};
@@ -95,12 +95,29 @@ fn told_byte(alloc: Global, words: &[u32], call: Call, at: u32) -> Result<Option
     Ok(told(&task, &s))
 }
 
-/// Behind the call no instruction stands, which the task meets.
+/// Whether that task has met what it can't do after so many steps, at this pc, and has printed this.
+fn prints(
+    alloc: Global,
+    words: &[u32],
+    call: Call,
+    steps: u64,
+    pc: u32,
+    output: &[u8],
+) -> Result<bool, Fail> {
+    let task = done(alloc, words, call)?;
+    let is_met = stand(&task) == (0, steps, pc, Some(Ending::Met));
+    Ok(is_met && *task.view().output() == *output)
+}
+
+/// Whether a write of so many bytes is a step that prints this. Behind the call no instruction stands, which
+/// the task meets.
+fn writes(alloc: Global, from: u32, count: u32, output: &[u8]) -> Result<bool, Fail> {
+    prints(alloc, &[ECALL], write(from, count), 1, START + 4, output)
+}
+
 #[test]
 fn a_short_write_is_a_step(rt: HostRuntime) -> Result<(), Fail> {
-    let task = done(rt.alloc(), &[ECALL], write(0x2_0000, 3))?;
-    assert_eq!(rt; stand(&task), (0, 1, START + 4, Some(Ending::Met)));
-    assert_eq!(rt; task.view().output(), b"hi\n".as_slice());
+    assert!(rt; writes(rt.alloc(), 0x2_0000, 3, b"hi\n")?);
     Ok(())
 }
 
@@ -115,16 +132,20 @@ fn the_shown_bytes_are_recorded(rt: HostRuntime) -> Result<(), Fail> {
     Ok(())
 }
 
+/// The pc and x10 of the state to which the task of a call was applied, and whether this is its output, of
+/// which the first byte was there before.
+fn applied(alloc: Global, call: Call, output: &[u8]) -> Result<(u32, u32, bool), Fail> {
+    let task = done(alloc, &[ECALL], call)?;
+    let mut s = calling(alloc, &[ECALL], call)?;
+    let mut out = vec![in alloc; 0x3e]?;
+    apply(alloc, &task, &mut s, &mut out)?;
+    Ok((s.pc, s.regs[10], *out.as_slice() == *output))
+}
+
 #[test]
 fn it_is_applied_with_its_output(rt: HostRuntime) -> Result<(), Fail> {
-    let call = write(0x2_0000, 2);
-    let task = done(rt.alloc(), &[ECALL], call)?;
-    let mut s = calling(rt.alloc(), &[ECALL], call)?;
-    let mut out = Vec::new(rt.alloc());
-    out.push(0x3e)?;
-    task.view().apply(rt.alloc(), task.pc(), &mut s, &mut out)?;
-    assert_eq!(rt; (s.pc, s.regs[10]), (START + 4, 2));
-    assert_eq!(rt; out.as_slice(), b">hi".as_slice());
+    let found = applied(rt.alloc(), write(0x2_0000, 2), b">hi")?;
+    assert_eq!(rt; found, (START + 4, 2, true));
     Ok(())
 }
 
@@ -156,25 +177,40 @@ fn the_registers_of_a_short_write_are_recorded(rt: HostRuntime) -> Result<(), Fa
     Ok(())
 }
 
+/// Whether a call is met, prints nothing, and none of its registers and bytes is recorded.
+fn is_met(alloc: Global, call: Call) -> Result<bool, Fail> {
+    let told = told_byte(alloc, &[ECALL], call, 0x2_0000)?;
+    let otherwise = register_told_otherwise(alloc, call)?;
+    let is_recorded = told.is_some() || otherwise.is_some();
+    Ok(!is_recorded && prints(alloc, &[ECALL], call, 0, START, b"")?)
+}
+
 /// A write of 257 bytes, one to another descriptor, and an exit.
+static OTHER_CALLS: [Call; 3] = [
+    Call {
+        number: 64,
+        descriptor: 1,
+        from: 0x2_0000,
+        count: 257,
+    },
+    Call {
+        number: 64,
+        descriptor: 0,
+        from: 0x2_0000,
+        count: 3,
+    },
+    Call {
+        number: 93,
+        descriptor: 1,
+        from: 0x2_0000,
+        count: 3,
+    },
+];
+
 #[test]
 fn other_calls_are_met(rt: HostRuntime) -> Result<(), Fail> {
-    let long = write(0x2_0000, 257);
-    let to_input = Call {
-        descriptor: 0,
-        ..write(0x2_0000, 3)
-    };
-    let exit = Call {
-        number: 93,
-        ..write(0x2_0000, 3)
-    };
-    for call in [long, to_input, exit] {
-        let task = done(rt.alloc(), &[ECALL], call)?;
-        assert_eq!(rt; stand(&task), (0, 0, START, Some(Ending::Met)));
-        let is_silent = task.view().output().is_empty();
-        let told = told_byte(rt.alloc(), &[ECALL], call, 0x2_0000)?;
-        let otherwise = register_told_otherwise(rt.alloc(), call)?;
-        assert_eq!(rt; (is_silent, told, otherwise), (true, None, None));
+    for &call in &OTHER_CALLS {
+        assert!(rt; is_met(rt.alloc(), call)?);
     }
     Ok(())
 }
@@ -184,9 +220,7 @@ fn other_calls_are_met(rt: HostRuntime) -> Result<(), Fail> {
 fn a_byte_of_its_own_is_shown_and_not_recorded(rt: HostRuntime) -> Result<(), Fail> {
     let words = [STORE, ECALL];
     let call = write(0x2_0000, 2);
-    let task = done(rt.alloc(), &words, call)?;
-    assert_eq!(rt; stand(&task), (0, 2, START + 8, Some(Ending::Met)));
-    assert_eq!(rt; task.view().output(), b"Ai".as_slice());
+    assert!(rt; prints(rt.alloc(), &words, call, 2, START + 8, b"Ai")?);
     let own = told_byte(rt.alloc(), &words, call, 0x2_0000)?;
     let other = told_byte(rt.alloc(), &words, call, 0x2_0001)?;
     assert_eq!(rt;
@@ -199,29 +233,29 @@ fn a_byte_of_its_own_is_shown_and_not_recorded(rt: HostRuntime) -> Result<(), Fa
 /// After the last address comes 0.
 #[test]
 fn shown_bytes_wrap(rt: HostRuntime) -> Result<(), Fail> {
-    let call = write(0xffff_ffff, 3);
-    let task = done(rt.alloc(), &[ECALL], call)?;
-    assert_eq!(rt; task.view().output(), b"hi\n".as_slice());
-    assert_eq!(rt;
-        told_byte(rt.alloc(), &[ECALL], call, 0)?,
-        differ(Cell::Byte(0), 0x69, 0x55)
-    );
+    assert!(rt; writes(rt.alloc(), 0xffff_ffff, 3, b"hi\n")?);
+    let told = told_byte(rt.alloc(), &[ECALL], write(0xffff_ffff, 3), 0)?;
+    assert_eq!(rt; told, differ(Cell::Byte(0), 0x69, 0x55));
     Ok(())
 }
 
 #[test]
 fn a_write_of_no_bytes_is_a_step(rt: HostRuntime) -> Result<(), Fail> {
-    let task = done(rt.alloc(), &[ECALL], write(0x2_0000, 0))?;
-    assert_eq!(rt; stand(&task), (0, 1, START + 4, Some(Ending::Met)));
-    assert!(rt; task.view().output().is_empty());
+    assert!(rt; writes(rt.alloc(), 0x2_0000, 0, b"")?);
     Ok(())
+}
+
+/// Where the task of a write of 256 bytes stands once it is done, and how many it has printed.
+fn longest(alloc: Global) -> Result<(Stand, usize), Fail> {
+    let task = done(alloc, &[ECALL], write(0x2_0021, 256))?;
+    Ok((stand(&task), task.view().output().len()))
 }
 
 /// 256 bytes in five lines of 64.
 #[test]
 fn the_longest_short_write(rt: HostRuntime) -> Result<(), Fail> {
-    let task = done(rt.alloc(), &[ECALL], write(0x2_0021, 256))?;
-    assert_eq!(rt; stand(&task), (0, 1, START + 4, Some(Ending::Met)));
-    assert_eq!(rt; task.view().output().len(), 256);
+    let (stood, length) = longest(rt.alloc())?;
+    assert_eq!(rt; stood, (0, 1, START + 4, Some(Ending::Met)));
+    assert_eq!(rt; length, 256);
     Ok(())
 }

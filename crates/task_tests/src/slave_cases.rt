@@ -92,6 +92,20 @@ pub fn begun(
     Task::begin(alloc, 0, anchor, s.regs, mem)
 }
 
+/// What the next event of a task answers, or None where it is done.
+fn next(
+    alloc: Global,
+    task: &mut Task<PlainMemory>,
+    image: &Image,
+) -> Result<Option<SlaveDid>, AllocError>
+    requires { IsImage image.now }
+{
+    if task.ending().is_some() || task.steps() >= u64::from(image.limit) {
+        return Ok(None);
+    }
+    Ok(Some(task.advance(alloc, image)?))
+}
+
 /// What the events of a task answer until it is done.
 pub fn events(
     alloc: Global,
@@ -102,11 +116,10 @@ pub fn events(
 {
     let mut answers = Vec::new(alloc);
     for _ in 0..image.limit {
-        if task.ending().is_some() || task.steps() >= u64::from(image.limit) {
-            break;
+        match next(alloc, task, image)? {
+            Some(answer) => answers.push(answer)?,
+            None => break,
         }
-        let answer = task.advance(alloc, image)?;
-        answers.push(answer)?;
     }
     Ok(answers)
 }
@@ -121,12 +134,25 @@ fn turned(alloc: Global) -> Result<Task<PlainMemory>, Fail> {
 }
 
 /// A task's number, steps, pc and ending.
-pub fn stand(task: &Task<PlainMemory>) -> (u64, u64, u32, Option<Ending>) {
+pub type Stand = (u64, u64, u32, Option<Ending>);
+
+/// Where a task stands.
+pub fn stand(task: &Task<PlainMemory>) -> Stand {
     (task.number(), task.steps(), task.pc(), task.ending())
 }
 
 pub fn told(task: &Task<PlainMemory>, s: &Arch<PlainMemory>) -> Option<Differ> {
     task.view().compare(s)
+}
+
+/// Applies a task to a state and its output.
+pub fn apply(
+    alloc: Global,
+    task: &Task<PlainMemory>,
+    s: &mut Arch<PlainMemory>,
+    out: &mut Vec<u8>,
+) -> Result<(), AllocError> {
+    task.view().apply(alloc, task.pc(), s, out)
 }
 
 pub fn differ(cell: Cell, predicted: u32, found: u32) -> Option<Differ> {
@@ -137,34 +163,55 @@ pub fn differ(cell: Cell, predicted: u32, found: u32) -> Option<Differ> {
     })
 }
 
+/// Whether a task by the image of these numbers, that begins at an anchor with a state, answers this until it
+/// is done, and stands so then.
+fn comes_to(
+    alloc: Global,
+    numbers: &[u32],
+    anchor: &Anchor,
+    s: &Arch<PlainMemory>,
+    wanted: &[SlaveDid],
+    stood: Stand,
+) -> Result<bool, Fail>
+    requires { IsAnchor 1_048_576 anchor.now }
+{
+    let image = image(alloc, numbers)?;
+    let mut task = begun(alloc, anchor, s)?;
+    let answers = events(alloc, &mut task, &image)?;
+    Ok(*answers.as_slice() == *wanted && stand(&task) == stood)
+}
+
+/// What the task of two turns answers.
+static TWO_TURNS: [SlaveDid; 4] = [
+    SlaveDid::Stepped,
+    SlaveDid::Stepped,
+    SlaveDid::Stepped,
+    SlaveDid::Done(Ending::Reached),
+];
+
+/// Whether that task answers so, and ends where the next one begins.
+fn is_reached(alloc: Global) -> Result<bool, Fail> {
+    let s = turns_after(alloc, 1)?;
+    let stood = (0, 4, 0x1_0004, Some(Ending::Reached));
+    comes_to(alloc, &TEN_TURNS, &HEAD, &s, &TWO_TURNS, stood)
+}
+
 #[test]
 fn two_turns_are_reached(rt: HostRuntime) -> Result<(), Fail> {
-    let image = image(rt.alloc(), &TEN_TURNS)?;
-    let s = turns_after(rt.alloc(), 1)?;
-    let mut task = begun(rt.alloc(), &HEAD, &s)?;
-    let answers = events(rt.alloc(), &mut task, &image)?;
-    let wanted = [
-        SlaveDid::Stepped,
-        SlaveDid::Stepped,
-        SlaveDid::Stepped,
-        SlaveDid::Done(Ending::Reached),
-    ];
-    assert_eq!(rt; answers.as_slice(), wanted.as_slice());
-    assert_eq!(rt; stand(&task), (0, 4, 0x1_0004, Some(Ending::Reached)));
+    assert!(rt; is_reached(rt.alloc())?);
     Ok(())
 }
 
 #[test]
 fn nothing_differs_where_the_task_began(rt: HostRuntime) -> Result<(), Fail> {
-    let task = turned(rt.alloc())?;
-    let s = turns_after(rt.alloc(), 1)?;
-    assert_eq!(rt; told(&task, &s), None);
+    assert_eq!(rt; told_but(rt.alloc(), But::Nothing)?, None);
     Ok(())
 }
 
 /// A state that a task is told of: that of the ten turns after one step, but with these.
 #[derive(Clone, Copy)]
 enum But {
+    Nothing,
     Pc(u32),
     Register(u8, u32),
     Byte(u32, u8),
@@ -175,6 +222,7 @@ fn told_but(alloc: Global, but: But) -> Result<Option<Differ>, Fail> {
     let task = turned(alloc)?;
     let mut s = turns_after(alloc, 1)?;
     match but {
+        But::Nothing => {}
         But::Pc(pc) => s.pc = pc,
         But::Register(r, value) => s.regs[(r % 32) as usize] = value,
         But::Byte(at, value) => s.mem.put(alloc, at, &[value])?,
@@ -233,18 +281,37 @@ fn no_other_byte_is_recorded(rt: HostRuntime) -> Result<(), Fail> {
     Ok(())
 }
 
+/// The state of the ten turns after one step, to which the task of two turns was applied.
+fn applied(alloc: Global) -> Result<Arch<PlainMemory>, Fail> {
+    let task = turned(alloc)?;
+    let mut s = turns_after(alloc, 1)?;
+    let mut out = Vec::new(alloc);
+    apply(alloc, &task, &mut s, &mut out)?;
+    Ok(s)
+}
+
+/// Whether a state has the bytes of another one at the 32 addresses from the program's start on.
+fn has_bytes_of(s: &Arch<PlainMemory>, wanted: &Arch<PlainMemory>) -> bool {
+    for at in START..START + 0x20 {
+        if s.mem.get(at) != wanted.mem.get(at) {
+            return false;
+        }
+    }
+    true
+}
+
+/// The pc and x5 of that state, and whether its pc, its registers and those bytes are those after five steps.
+fn after_it_is_applied(alloc: Global) -> Result<(u32, u32, bool), Fail> {
+    let s = applied(alloc)?;
+    let wanted = turns_after(alloc, 5)?;
+    let is_so = s.pc == wanted.pc && s.regs == wanted.regs && has_bytes_of(&s, &wanted);
+    Ok((s.pc, s.regs[5], is_so))
+}
+
 #[test]
 fn its_writes_are_applied(rt: HostRuntime) -> Result<(), Fail> {
-    let task = turned(rt.alloc())?;
-    let mut s = turns_after(rt.alloc(), 1)?;
-    let mut out = Vec::new(rt.alloc());
-    task.view().apply(rt.alloc(), task.pc(), &mut s, &mut out)?;
-    let wanted = turns_after(rt.alloc(), 5)?;
-    let is_so = s.pc == wanted.pc && s.regs == wanted.regs;
-    assert_eq!(rt; (s.pc, s.regs[5], is_so), (0x1_0004, 8, true));
-    for at in 0x1_0000..0x1_0020 {
-        assert_eq!(rt; s.mem.get(at), wanted.mem.get(at), "at {at:08x}");
-    }
+    let found = after_it_is_applied(rt.alloc())?;
+    assert_eq!(rt; found, (0x1_0004, 8, true));
     Ok(())
 }
 
@@ -267,10 +334,15 @@ fn told_alone(alloc: Global, word: u32, five: u32, ten: u32) -> Result<Option<Di
     Ok(told(&task, &s))
 }
 
+/// Whether that task ends where it began.
+fn is_met(alloc: Global, word: u32, five: u32) -> Result<bool, Fail> {
+    let task = alone(alloc, word, five)?;
+    Ok(stand(&task) == (0, 0, START, Some(Ending::Met)))
+}
+
 #[test]
 fn a_call_is_met(rt: HostRuntime) -> Result<(), Fail> {
-    let task = alone(rt.alloc(), 0x0000_0073, 0)?;
-    assert_eq!(rt; stand(&task), (0, 0, START, Some(Ending::Met)));
+    assert!(rt; is_met(rt.alloc(), 0x0000_0073, 0)?);
     assert_eq!(rt; told_alone(rt.alloc(), 0x0000_0073, 7, 7)?, None);
     Ok(())
 }
@@ -278,26 +350,45 @@ fn a_call_is_met(rt: HostRuntime) -> Result<(), Fail> {
 /// JALR by x5, whose target is no multiple of 4.
 #[test]
 fn a_misaligned_jump_is_met(rt: HostRuntime) -> Result<(), Fail> {
-    let task = alone(rt.alloc(), 0x0002_80e7, 0x1_0006)?;
-    assert_eq!(rt; stand(&task), (0, 0, START, Some(Ending::Met)));
-    assert_eq!(rt; told_alone(rt.alloc(), 0x0002_80e7, 0x1_0006, 7)?, None);
+    assert!(rt; is_met(rt.alloc(), 0x0002_80e7, 0x1_0006)?);
+    let same = told_alone(rt.alloc(), 0x0002_80e7, 0x1_0006, 7)?;
+    let other = told_alone(rt.alloc(), 0x0002_80e7, 0x1_0004, 7)?;
     assert_eq!(rt;
-        told_alone(rt.alloc(), 0x0002_80e7, 0x1_0004, 7)?,
-        differ(Cell::Reg(5), 0x1_0006, 0x1_0004)
+        (same, other),
+        (None, differ(Cell::Reg(5), 0x1_0006, 0x1_0004))
     );
     Ok(())
 }
 
-/// A word before a jump to itself, which is at no anchor.
+/// What a task answers that is full.
+static FULL: [SlaveDid; 16] = [
+    SlaveDid::Stepped,
+    SlaveDid::Stepped,
+    SlaveDid::Stepped,
+    SlaveDid::Stepped,
+    SlaveDid::Stepped,
+    SlaveDid::Stepped,
+    SlaveDid::Stepped,
+    SlaveDid::Stepped,
+    SlaveDid::Stepped,
+    SlaveDid::Stepped,
+    SlaveDid::Stepped,
+    SlaveDid::Stepped,
+    SlaveDid::Stepped,
+    SlaveDid::Stepped,
+    SlaveDid::Stepped,
+    SlaveDid::Done(Ending::Full),
+];
+
+/// Whether a word before a jump to itself, which is at no anchor, comes to that.
+fn is_full(alloc: Global) -> Result<bool, Fail> {
+    let s = start(alloc, &[0x00a0_0293, 0x0000_006f])?;
+    let stood = (0, 16, 0x1_0004, Some(Ending::Full));
+    comes_to(alloc, &ONE_ANCHOR, &FIRST, &s, &FULL, stood)
+}
+
 #[test]
 fn a_loop_without_anchors_is_full(rt: HostRuntime) -> Result<(), Fail> {
-    let image = image(rt.alloc(), &ONE_ANCHOR)?;
-    let s = start(rt.alloc(), &[0x00a0_0293, 0x0000_006f])?;
-    let mut task = begun(rt.alloc(), &FIRST, &s)?;
-    let answers = events(rt.alloc(), &mut task, &image)?;
-    let mut wanted = [SlaveDid::Stepped; 16];
-    wanted[15] = SlaveDid::Done(Ending::Full);
-    assert_eq!(rt; answers.as_slice(), wanted.as_slice());
-    assert_eq!(rt; stand(&task), (0, 16, 0x1_0004, Some(Ending::Full)));
+    assert!(rt; is_full(rt.alloc())?);
     Ok(())
 }
