@@ -73,13 +73,14 @@ fn no_children() -> [Option<Rc<Node>>; 64]
     [const { None }; 64]
 }
 
-// The children of the node in a slot, once more.
-fn children_of(slot: &Option<Rc<Node>>) -> Result<[Option<Rc<Node>>; 64], AllocError>
-    ensures { IfOk result (λ children. (i : ℕ) → child_at children i ≡ kid (owned slot.now) i) }
+// Puts the children of the node in a slot, once more, where none stand yet.
+fn copy_children(slot: &Option<Rc<Node>>, to: &mut [Option<Rc<Node>>; 64]) -> Result<(), AllocError>
+    requires { (i : ℕ) → child_at to.old i ≡ None }
+    ensures { OnOk result ((i : ℕ) → child_at to.new i ≡ kid (owned slot.now) i) }
 {
     match slot {
-        Some(node) => node.children(),
-        None => Ok(no_children()),
+        Some(node) => node.copy_children(to),
+        None => Ok(()),
     }
 }
 
@@ -103,7 +104,8 @@ fn renewed<L: Ledger>(
     ensures ok { IfOk result (λ node. IsRenewed (owned slot.now) (Some node.value) i (owned child)) }
     ensures count { steps.new ≤ steps.old + 1 }
 {
-    let mut children = children_of(slot)?;
+    let mut children = no_children();
+    copy_children(slot, &mut children)?;
     put_child(&mut children, i, child);
     Node::inner(alloc, children, steps)
 }

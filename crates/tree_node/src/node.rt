@@ -1,6 +1,6 @@
 //! A node: 64 children, or 256 bytes. A node with one owner may be changed where it lies; one with several is
 //! left alone, and another one is made in its place.
-ghost use Rattle.std.specs.Prelude.{◌≡◌, ◌+◌, ◌<◌, ◌≤◌, ◌==◌, if◌then◌else◌, ℕ, None, true, false, IfOk, length, slice_index, slice_index_or, slice_set, option_map};
+ghost use Rattle.std.specs.Prelude.{◌≡◌, ◌+◌, ◌<◌, ◌≤◌, ◌==◌, if◌then◌else◌, ℕ, None, true, false, IfOk, OnOk, length, slice_index, slice_index_or, slice_set, option_map};
 ghost use Rattle.std.specs.Bool.{OnTrue, OnFalse};
 ghost use Rattle.cells.specs.Bytes.{number};
 ghost use Rattle.tree_node.specs.Nodes.{owned, child, child_at, byte, bytes_of, is_inner, overwritten, HasLine};
@@ -47,17 +47,20 @@ impl Children {
     }
 }
 
-// One more owner of each of these children.
-fn again(children: &[Option<Rc<Node>>; 64]) -> Result<[Option<Rc<Node>>; 64], AllocError>
-    ensures { IfOk result (λ copy. (i : ℕ) → child_at copy i ≡ child_at children.now i) }
+// Puts one more owner of each of these children where none stand yet.
+fn copy_children(
+    children: &[Option<Rc<Node>>; 64],
+    to: &mut [Option<Rc<Node>>; 64],
+) -> Result<(), AllocError>
+    requires { (i : ℕ) → child_at to.old i ≡ None }
+    ensures { OnOk result ((i : ℕ) → child_at to.new i ≡ child_at children.now i) }
 {
-    let mut copy = no_children();
     for i in 0..64 {
         if let Some(child) = &children[i] {
-            copy[i] = Some(child.clone()?);
+            to[i] = Some(child.clone()?);
         }
     }
-    Ok(copy)
+    Ok(())
 }
 
 // The same for children that lie in a box.
@@ -68,12 +71,6 @@ fn exchange_in(children: &mut Box<Children>, i: usize, other: &mut Option<Rc<Nod
     ensures whole { length children.old.value.at ≡ 64 }
 {
     children.exchange(i, other);
-}
-
-fn no_children() -> [Option<Rc<Node>>; 64]
-    ensures { (i : ℕ) → child_at result i ≡ None }
-{
-    [const { None }; 64]
 }
 
 fn no_bytes() -> [u8; 256]
@@ -210,17 +207,18 @@ impl Node {
         }
     }
 
-    /// One more owner of each child of an inner node, for another such node. A leaf gives none.
+    /// Puts one more owner of each child of an inner node where none stand yet, for another such node. A leaf has none.
     ///
     /// # Errors
     ///
-    /// Want of memory alone.
-    pub fn children(&self) -> Result<[Option<Rc<Node>>; 64], AllocError>
-        ensures { IfOk result (λ children. (i : ℕ) → child_at children i ≡ child self.now i) }
+    /// Want of memory alone. Some children may stand there then.
+    pub fn copy_children(&self, to: &mut [Option<Rc<Node>>; 64]) -> Result<(), AllocError>
+        requires { (i : ℕ) → child_at to.old i ≡ None }
+        ensures { OnOk result ((i : ℕ) → child_at to.new i ≡ child self.now i) }
     {
         match self {
-            Node::Inner(children) => again(&children.at),
-            Node::Leaf(_) => Ok(no_children()),
+            Node::Inner(children) => copy_children(&children.at, to),
+            Node::Leaf(_) => Ok(()),
         }
     }
 
