@@ -1,7 +1,7 @@
 //! Bytes by address, in lines that are found by their numbers.
 ghost use Rattle.std.specs.Prelude.{◌≡◌, ℕ, ◌+◌, ◌*◌, ◌<◌, ◌≤◌, ◌^◌, ◌/◌, ◌%◌, true, false, None, nat_eq, OnOk, IfSome, IfNone};
 ghost use Rattle.indexmap.specs.IndexMap.{get, spare};
-ghost use Rattle.layers.specs.Lines.{is_read, put_at, IsPlace, IsSame, FourAre, IsMarkedUnlessPut, IsPutAt, AreLaid, IsFirstChanged, AreUnchanged};
+ghost use Rattle.layers.specs.Lines.{is_read, put_at, IsPlace, IsSame, FourAre, IsMarkedUnlessPut, IsPutAt, ArePutFrom, AreLaid, IsFirstChanged, AreUnchanged};
 
 use crate::line::{Four, Line};
 use indexmap::IndexMap;
@@ -134,6 +134,23 @@ impl Lines {
     {
         let (_, line) = self.map.pair_mut(place);
         line.write(a % 64, v)
+    }
+
+    /// Puts four bytes that lie in that line.
+    #[inline(always)]
+    pub fn write_four(&mut self, place: usize, a: u32, bytes: [u8; 4])
+        requires place { IsPlace self.old (a / 64) place }
+        requires within { a % 64 + 4 ≤ 64 }
+        ensures puts { ArePutFrom a bytes (put_at self.old) (put_at self.new) }
+        ensures reads { (q : ℕ) → is_read self.new q ≡ is_read self.old q }
+        ensures room { spare self.new.map ≡ spare self.old.map }
+    {
+        let (_, line) = self.map.pair_mut(place);
+        let i = a % 64;
+        line.write(i, bytes[0]);
+        line.write(i + 1, bytes[1]);
+        line.write(i + 2, bytes[2]);
+        line.write(i + 3, bytes[3]);
     }
 
     /// The least address whose byte is recorded and is another one in the second memory. Takes no memory.

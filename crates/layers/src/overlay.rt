@@ -186,6 +186,12 @@ impl<M: Memory> View for Overlay<M> {
         self.kept.put_all(a, bytes);
         Ok(())
     }
+
+    #[inline(always)]
+    fn put_word(&mut self, _alloc: Global, a: u32, v: u32) -> Result<(), AllocError> {
+        self.kept.put_four(a, v.to_le_bytes());
+        Ok(())
+    }
 }
 
 impl<M: Memory> Overlay<M> {

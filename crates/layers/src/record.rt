@@ -115,6 +115,7 @@ impl Record {
             to = to.wrapping_add(1);
         }
     }
+
     // Bytes that lie in the line at a place.
     #[inline(always)]
     fn put_there(&mut self, place: usize, a: u32, bytes: &[u8])
@@ -146,5 +147,21 @@ impl Record {
         }
         let place = self.place_to_write(a);
         self.put_there(place, a, bytes);
+    }
+
+    /// The same for four bytes, which are put without a loop where they lie in one line.
+    #[inline(always)]
+    pub fn put_four(&mut self, a: u32, bytes: [u8; 4])
+        requires { 4 ≤ self.old.writes }
+        ensures puts { ArePutFrom a bytes (put_at self.old.lines) (put_at self.new.lines) }
+        ensures marks { (q : ℕ) → is_read self.new.lines q ≡ is_read self.old.lines q }
+        ensures writes { self.old.writes ≤ self.new.writes + 4 }
+        ensures reads { self.new.reads ≡ self.old.reads }
+    {
+        if a % 64 > 60 {
+            return self.put_each(a, &bytes);
+        }
+        let place = self.place_to_write(a);
+        self.lines.write_four(place, a, bytes);
     }
 }

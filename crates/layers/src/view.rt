@@ -256,4 +256,9 @@ impl<M: Memory> View for TaskView<M> {
     fn put(&mut self, alloc: Global, a: u32, bytes: &[u8]) -> Result<(), AllocError> {
         self.cells.put(alloc, a, bytes)
     }
+
+    #[inline(always)]
+    fn put_word(&mut self, alloc: Global, a: u32, v: u32) -> Result<(), AllocError> {
+        self.cells.put_word(alloc, a, v)
+    }
 }

@@ -14,6 +14,7 @@ pub enum SlaveDid {
     Done(Ending),
 }
 
+#[inline(always)]
 pub(crate) fn did_of(ending: Option<Ending>) -> SlaveDid
     ensures { result ≡ spec.did_of ending }
 {
@@ -24,6 +25,7 @@ pub(crate) fn did_of(ending: Option<Ending>) -> SlaveDid
 }
 
 // Where a step goes on, if it does.
+#[inline(always)]
 pub(crate) fn next_of(flow: Flow) -> Option<u32>
     ensures { result ≡ spec.next_of flow }
 {
@@ -34,6 +36,7 @@ pub(crate) fn next_of(flow: Flow) -> Option<u32>
 }
 
 // How a task is done after a step, by the anchors left and the steps taken.
+#[inline(always)]
 pub(crate) fn ending_after(left: u32, steps: u64, limit: u32) -> Option<Ending>
     ensures { result ≡ spec.ending_after left steps limit }
 {

@@ -184,7 +184,9 @@ impl<M: Memory> Task<M> {
     }
 
     // Goes on at this pc, and is done there with the last anchor or the last step; without one, meets what stands at its own.
+    #[inline(always)]
     fn go_on(&mut self, image: &Image, next: Option<u32>)
+        requires running { IsNone self.old.ending }
         requires aligned { IfSome next (λ to. to % 4 ≡ 0) }
         requires room { self.old.steps < image.now.limit }
         requires image { IsImage image.now }
@@ -195,9 +197,13 @@ impl<M: Memory> Task<M> {
                 let (arrived, below) = look(image, self.below, to);
                 self.pc = to;
                 self.below = below;
-                self.left = self.left.saturating_sub(u32::from(arrived));
+                if arrived {
+                    self.left = self.left.saturating_sub(1);
+                }
                 self.steps += 1;
-                self.ending = ending_after(self.left, self.steps, image.limit);
+                if let Some(how) = ending_after(self.left, self.steps, image.limit) {
+                    self.ending = Some(how);
+                }
             }
             None => self.ending = Some(Ending::Met),
         }

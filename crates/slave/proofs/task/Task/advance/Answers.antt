@@ -1,5 +1,6 @@
 -- An event of a task: what the code did is the event on what contracts see, and so all else that is known of that.
 use Rattle.std.proofs.Common.{sym, ap, ◌∙◌, subst}
+use Rattle.std.specs.Prelude.{IsNone}
 use Rattle.dist_image.specs.Image.{Distilled}
 use Rattle.slave.specs.Task.{Shown, shown, modelled, IsTaskOf}
 use Rattle.slave.proofs.Keeps.{went_is, goes, advanced_is_task, follows_run, none_is, on_err}
@@ -7,6 +8,9 @@ use Rattle.slave.proofs.task.Task.advance.Goals as goal
 
 pub returns-in_err-next-clause-err : goal.returns-in_err-next-clause-err
 returns-in_err-next-clause-err g c = on_err c.from_residual.result c.in_err-next.ensures.err
+
+pub go_on-requires-clause-running : goal.go_on-requires-clause-running
+go_on-requires-clause-running g c = subst IsNone (sym (ap (λ (k : Shown). k.ending) c.in_ok-next.ensures.ok)) c.requires.running
 
 pub returns-clause-ok : goal.returns-clause-ok
 returns-clause-ok g c =
