@@ -16,7 +16,7 @@ use command_line::Run;
 use memory::Memory;
 use nosquash::Pair;
 use outside::{Sink, Store};
-use speculative_runs::{behind, has_come, put_after, stand, turn, write_report};
+use speculative_runs::{has_come, put_after, stand, turn, write_report};
 use std::alloc::Global;
 
 /// Gives the pair rounds until its run has ended or stands at the budget or past it, puts its output as
@@ -61,7 +61,7 @@ fn advance<O: Sink, M: Memory>(
             Ok(()) => {}
             Err(_) => return Err(Answer::Memory),
         }
-        let e = turn(slaves, place);
+        let (e, next) = turn(slaves, place);
         let effect = match pair.event(alloc, e) {
             Ok(effect) => effect,
             Err(_) => return Err(Answer::Memory),
@@ -70,7 +70,7 @@ fn advance<O: Sink, M: Memory>(
             Ok(length) => put = length,
             Err(answer) => return Err(answer),
         }
-        place = behind(slaves, place);
+        place = next;
         given += 1;
     }
     Ok(())

@@ -8,6 +8,4 @@ mod speculating;
 
 pub use driving::{drive, stand};
 pub use events::put_replay;
-pub use speculating::{
-    Schedule, behind, has_come, put_after, put_new, speculate, turn, write_report,
-};
+pub use speculating::{Schedule, has_come, put_after, put_new, speculate, turn, write_report};

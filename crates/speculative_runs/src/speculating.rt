@@ -43,48 +43,42 @@ fn schedule_of(run: &Run<'_>) -> Schedule
     }
 }
 
-/// The event at a place of a round, which has as many as there are slaves and seven more.
+/// The event at a place of a round, which has as many as there are slaves and seven more, and the place behind it: rounds
+/// follow one another.
 #[inline(always)]
-pub fn turn(slaves: u8, place: u8) -> Event
+pub fn turn(slaves: u8, place: u8) -> (Event, u8)
     requires few { slaves ≤ 64 }
     requires place { place < slaves + 7 }
-    ensures { slice_get (round slaves) place ≡ Some result }
+    ensures event { slice_get (round slaves) place ≡ Some result.0 }
+    ensures within { result.1 < slaves + 7 }
+    ensures next { (k : ℕ) → k % (slaves + 7) ≡ place → (k + 1) % (slaves + 7) ≡ result.1 }
 {
     let slave = place.wrapping_sub(6);
     if slave < slaves {
-        return Event::Slave(slave);
+        return (Event::Slave(slave), place + 1);
     }
     match place {
-        0 => Event::Restart,
-        1 => Event::Serial,
-        2 | 3 | 4 | 5 => Event::Master,
-        _ => Event::Commit,
+        0 => (Event::Restart, 1),
+        1 => (Event::Serial, 2),
+        2 | 3 | 4 | 5 => (Event::Master, place + 1),
+        _ => (Event::Commit, 0),
     }
 }
 
-// The event of a schedule at a place of its rounds.
+// The event of a schedule at a place of its rounds, and the place behind it.
 #[inline(always)]
-#[tactic(auto, using(crate::proofs::Turns::at_turn))]
-fn event_at(schedule: Schedule, slaves: u8, place: u8) -> Event
+fn event_at(schedule: Schedule, slaves: u8, place: u8) -> (Event, u8)
     requires few { slaves ≤ 64 }
     requires place { place < slaves + 7 }
-    ensures { (k : ℕ) → k % (slaves + 7) ≡ place → result ≡ events_of schedule slaves k }
+    ensures event { (k : ℕ) → k % (slaves + 7) ≡ place → result.0 ≡ events_of schedule slaves k }
+    ensures within { result.1 < slaves + 7 }
+    ensures next { (k : ℕ) → k % (slaves + 7) ≡ place → (k + 1) % (slaves + 7) ≡ result.1 }
 {
+    let (event, next) = turn(slaves, place);
     match schedule {
-        Schedule::Rounds => turn(slaves, place),
-        Schedule::Alone => Event::Serial,
+        Schedule::Rounds => (event, next),
+        Schedule::Alone => (Event::Serial, next),
     }
-}
-
-/// The place behind a place of a round: rounds follow one another. It is kept, and not divided for.
-#[inline(always)]
-pub fn behind(slaves: u8, place: u8) -> u8
-    requires few { slaves ≤ 64 }
-    requires place { place < slaves + 7 }
-    ensures within { result < slaves + 7 }
-    ensures next { (k : ℕ) → k % (slaves + 7) ≡ place → (k + 1) % (slaves + 7) ≡ result }
-{
-    if place < slaves + 6 { place + 1 } else { 0 }
 }
 
 /// Whether the machine has ended, or stands at this position or past it.
@@ -223,7 +217,7 @@ fn advance_by<O: Sink, M: Memory>(
     let mut place = 0;
     let mut put = 0;
     while !has_come(pair, budget) {
-        let e = event_at(schedule, slaves, place);
+        let (e, next) = event_at(schedule, slaves, place);
         let effect = match pair.event(alloc, e) {
             Ok(effect) => effect,
             Err(_) => return Err(Answer::Memory),
@@ -232,7 +226,7 @@ fn advance_by<O: Sink, M: Memory>(
             Ok(length) => put = length,
             Err(answer) => return Err(answer),
         }
-        place = behind(slaves, place);
+        place = next;
         given += 1;
     }
     Ok(())

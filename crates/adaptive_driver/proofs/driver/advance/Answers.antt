@@ -129,9 +129,9 @@ put_after-requires-clause-from g c =
     let alike = alike_still a1 c.loop-alloc.adapter a0 c.in-Ok.ensures.alike i.alike in
     let slaves = c.in-Ok.ensures.slaves ∙ i.slaves in
     let e2 = c.event.new.self.engine in
-    let is_event : c.turn-e.result ≡ in_rounds p.slaves k = at_turn c.args.slaves c.loop-alloc.place c.turn-e.result c.turn-e.ensures k i.place ∙ ap (λ n. in_rounds n k) c.requires.slaves in
+    let is_event : c.turn-e.result.0 ≡ in_rounds p.slaves k = at_turn c.args.slaves c.loop-alloc.place c.turn-e.result.0 c.turn-e.ensures.event k i.place ∙ ap (λ n. in_rounds n k) c.requires.slaves in
     let next : stage_of at e2 a1 ≡ adapted p (k + 1) =
-    next_stage p k (k + 1) (stage_of at c.loop-alloc.pair.engine c.loop-alloc.adapter) (stage_of at e1 a1) (stage_of at e2 a1) (world_of at e1) c.turn-e.result i.stage is_ready
+    next_stage p k (k + 1) (stage_of at c.loop-alloc.pair.engine c.loop-alloc.adapter) (stage_of at e1 a1) (stage_of at e2 a1) (world_of at e1) c.turn-e.result.0 i.stage is_ready
     (world_alike at e1 e0 a1 a0 c.in-Ok.ensures.run alike slaves) is_event (ap (λ x. x.1) c.in-Ok-event.ensures.ok) c.in-Ok-event.ensures.image refl refl in
     let model : model_of at e2 ≡ model_at p (k + 1) = ap (λ (s : Stage). s.model) next in
     subst (λ (m : Model). c.loop-alloc.put ≤ length m.committed.env.output) (sym model)
@@ -152,7 +152,7 @@ put_after-requires-clause-idle g c =
     let is_ready : stage_of at e1 a1 ≡ ready p k (stage_of at c.loop-alloc.pair.engine c.loop-alloc.adapter) =
     readied at c.loop-alloc.pair.engine e0 c.loop-alloc.adapter a0 i.alike i.slaves k (stage_of at e1 a1) (stage_of at c.loop-alloc.pair.engine c.loop-alloc.adapter) (c.in-Ok.ensures.stage k at_place) in
     let same_model : model_of at e1 ≡ model_at p k = ap (λ (s : Stage). s.model) is_ready ∙ ready_model p k (stage_of at c.loop-alloc.pair.engine c.loop-alloc.adapter) ∙ here in
-    all_put (world_of at e1) (model_of at e1) (model_of at c.event.new.self.engine) (model_at p k) c.turn-e.result c.in-Ok-event.effect c.loop-alloc.put c.in-Ok-event.ensures.told same_model i.put
+    all_put (world_of at e1) (model_of at e1) (model_of at c.event.new.self.engine) (model_at p k) c.turn-e.result.0 c.in-Ok-event.effect c.loop-alloc.put c.in-Ok-event.ensures.told same_model i.put
 
 pub returns-in-Err-put_after-clause-err : goal.returns-in-Err-put_after-clause-err
 returns-in-Err-put_after-clause-err g c =
@@ -175,9 +175,9 @@ returns-in-Err-put_after-clause-err g c =
     let alike = alike_still a1 c.loop-alloc.adapter a0 c.in-Ok.ensures.alike i.alike in
     let slaves = c.in-Ok.ensures.slaves ∙ i.slaves in
     let e2 = c.event.new.self.engine in
-    let is_event : c.turn-e.result ≡ in_rounds p.slaves k = at_turn c.args.slaves c.loop-alloc.place c.turn-e.result c.turn-e.ensures k i.place ∙ ap (λ n. in_rounds n k) c.requires.slaves in
+    let is_event : c.turn-e.result.0 ≡ in_rounds p.slaves k = at_turn c.args.slaves c.loop-alloc.place c.turn-e.result.0 c.turn-e.ensures.event k i.place ∙ ap (λ n. in_rounds n k) c.requires.slaves in
     let next : stage_of at e2 a1 ≡ adapted p (k + 1) =
-    next_stage p k (k + 1) (stage_of at c.loop-alloc.pair.engine c.loop-alloc.adapter) (stage_of at e1 a1) (stage_of at e2 a1) (world_of at e1) c.turn-e.result i.stage is_ready
+    next_stage p k (k + 1) (stage_of at c.loop-alloc.pair.engine c.loop-alloc.adapter) (stage_of at e1 a1) (stage_of at e2 a1) (world_of at e1) c.turn-e.result.0 i.stage is_ready
     (world_alike at e1 e0 a1 a0 c.in-Ok.ensures.run alike slaves) is_event (ap (λ x. x.1) c.in-Ok-event.ensures.ok) c.in-Ok-event.ensures.image refl refl in
     let model : model_of at e2 ≡ model_at p (k + 1) = ap (λ (s : Stage). s.model) next in
     stopped_there course k i.not_yet (g.O.Sink.told c.args.out.now) (g.O.Sink.told c.loop-alloc.out) i.told (k + 1) c.loop-alloc.put refl i.put goes
@@ -238,9 +238,9 @@ loop-alloc-preserved g c =
     let alike = alike_still a1 c.loop-alloc.adapter a0 c.in-Ok.ensures.alike i.alike in
     let slaves = c.in-Ok.ensures.slaves ∙ i.slaves in
     let e2 = c.event.new.self.engine in
-    let is_event : c.turn-e.result ≡ in_rounds p.slaves k = at_turn c.args.slaves c.loop-alloc.place c.turn-e.result c.turn-e.ensures k i.place ∙ ap (λ n. in_rounds n k) c.requires.slaves in
+    let is_event : c.turn-e.result.0 ≡ in_rounds p.slaves k = at_turn c.args.slaves c.loop-alloc.place c.turn-e.result.0 c.turn-e.ensures.event k i.place ∙ ap (λ n. in_rounds n k) c.requires.slaves in
     let next : stage_of at e2 a1 ≡ adapted p (k + 1) =
-    next_stage p k (k + 1) (stage_of at c.loop-alloc.pair.engine c.loop-alloc.adapter) (stage_of at e1 a1) (stage_of at e2 a1) (world_of at e1) c.turn-e.result i.stage is_ready
+    next_stage p k (k + 1) (stage_of at c.loop-alloc.pair.engine c.loop-alloc.adapter) (stage_of at e1 a1) (stage_of at e2 a1) (world_of at e1) c.turn-e.result.0 i.stage is_ready
     (world_alike at e1 e0 a1 a0 c.in-Ok.ensures.run alike slaves) is_event (ap (λ x. x.1) c.in-Ok-event.ensures.ok) c.in-Ok-event.ensures.image refl refl in
     let model : model_of at e2 ≡ model_at p (k + 1) = ap (λ (s : Stage). s.model) next in
     record {
@@ -249,8 +249,8 @@ loop-alloc-preserved g c =
       alike = alike;
       slaves = c.in-Ok-event.ensures.slaves ∙ slaves;
       not_yet = not_yet_too course k i.not_yet (g.O.Sink.told c.args.out.now) (g.O.Sink.told c.loop-alloc.out) i.told (k + 1) c.loop-alloc.put refl i.put goes;
-      place = c.behind-place.ensures.next k i.place;
-      within = c.behind-place.ensures.within;
+      place = c.turn-e.ensures.next k i.place;
+      within = c.turn-e.ensures.within;
       put = c.in-Ok-put_after.ensures.length ∙ ap (λ (m : Model). length m.committed.env.output) model;
       told = put_too course k i.not_yet (g.O.Sink.told c.args.out.now) (g.O.Sink.told c.loop-alloc.out) i.told (k + 1) c.loop-alloc.put refl i.put goes (g.O.Sink.told c.put_after.new.out)
           (subst (λ (m : Model). Gains (g.O.Sink.told c.loop-alloc.out) (g.O.Sink.told c.put_after.new.out) (drop c.loop-alloc.put m.committed.env.output)) model c.in-Ok-put_after.ensures.ok);

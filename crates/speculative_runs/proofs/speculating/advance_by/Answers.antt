@@ -71,9 +71,9 @@ put_after-requires-clause-from g c =
     let course = its_course (start_of at e0) (image_of e0) (slaves_of e0) c.requires.image some c.args.schedule c.args.budget c.requires.least c.requires.running in
     let goes = goes_on c.args.budget (model_of at c.loop-alloc.pair.engine) (after (world_of at e0) (events_of c.args.schedule (slaves_of e0)) c.loop-alloc.given) c.has_come.result c.has_come.ensures c.loop-alloc-test.true i.model in
     let model : model_of at c.event.new.self.engine ≡ after (world_of at e0) (events_of c.args.schedule (slaves_of e0)) (c.loop-alloc.given + 1) =
-    next_after (world_of at e0) (events_of c.args.schedule (slaves_of e0)) c.loop-alloc.given (c.loop-alloc.given + 1) (model_of at c.loop-alloc.pair.engine) (model_of at c.event.new.self.engine) c.event_at-e.result i.model
-    (c.event_at-e.ensures c.loop-alloc.given i.place ∙ ap (λ n. events_of c.args.schedule n c.loop-alloc.given) c.requires.slaves)
-    (ap (λ x. x.1) c.in-Ok.ensures.ok ∙ ap (λ w. (happens w (model_of at c.loop-alloc.pair.engine) c.event_at-e.result).1) i.world) refl in
+    next_after (world_of at e0) (events_of c.args.schedule (slaves_of e0)) c.loop-alloc.given (c.loop-alloc.given + 1) (model_of at c.loop-alloc.pair.engine) (model_of at c.event.new.self.engine) c.event_at-e.result.0 i.model
+    (c.event_at-e.ensures.event c.loop-alloc.given i.place ∙ ap (λ n. events_of c.args.schedule n c.loop-alloc.given) c.requires.slaves)
+    (ap (λ x. x.1) c.in-Ok.ensures.ok ∙ ap (λ w. (happens w (model_of at c.loop-alloc.pair.engine) c.event_at-e.result.0).1) i.world) refl in
     subst (λ (m : Model). c.loop-alloc.put ≤ length m.committed.env.output) (sym model)
     (room_to_put course c.loop-alloc.given i.not_yet (g.O.Sink.told c.args.out.now) (g.O.Sink.told c.loop-alloc.out) i.told (c.loop-alloc.given + 1) c.loop-alloc.put refl i.put goes)
 
@@ -83,7 +83,7 @@ put_after-requires-clause-idle g c =
     let e0 = c.args.pair.now.engine in
     let e1 = c.loop-alloc.pair.engine in
     let i = c.loop-alloc.invariant in
-    all_put (world_of at e1) (model_of at e1) (model_of at c.event.new.self.engine) (after (world_of at e0) (events_of c.args.schedule (slaves_of e0)) c.loop-alloc.given) c.event_at-e.result c.in-Ok.effect c.loop-alloc.put
+    all_put (world_of at e1) (model_of at e1) (model_of at c.event.new.self.engine) (after (world_of at e0) (events_of c.args.schedule (slaves_of e0)) c.loop-alloc.given) c.event_at-e.result.0 c.in-Ok.effect c.loop-alloc.put
     c.in-Ok.ensures.told i.model i.put
 
 pub returns-in-Err-put_after-clause-err : goal.returns-in-Err-put_after-clause-err
@@ -95,9 +95,9 @@ returns-in-Err-put_after-clause-err g c =
     let course = its_course (start_of at e0) (image_of e0) (slaves_of e0) c.requires.image some c.args.schedule c.args.budget c.requires.least c.requires.running in
     let goes = goes_on c.args.budget (model_of at c.loop-alloc.pair.engine) (after (world_of at e0) (events_of c.args.schedule (slaves_of e0)) c.loop-alloc.given) c.has_come.result c.has_come.ensures c.loop-alloc-test.true i.model in
     let model : model_of at c.event.new.self.engine ≡ after (world_of at e0) (events_of c.args.schedule (slaves_of e0)) (c.loop-alloc.given + 1) =
-    next_after (world_of at e0) (events_of c.args.schedule (slaves_of e0)) c.loop-alloc.given (c.loop-alloc.given + 1) (model_of at c.loop-alloc.pair.engine) (model_of at c.event.new.self.engine) c.event_at-e.result i.model
-    (c.event_at-e.ensures c.loop-alloc.given i.place ∙ ap (λ n. events_of c.args.schedule n c.loop-alloc.given) c.requires.slaves)
-    (ap (λ x. x.1) c.in-Ok.ensures.ok ∙ ap (λ w. (happens w (model_of at c.loop-alloc.pair.engine) c.event_at-e.result).1) i.world) refl in
+    next_after (world_of at e0) (events_of c.args.schedule (slaves_of e0)) c.loop-alloc.given (c.loop-alloc.given + 1) (model_of at c.loop-alloc.pair.engine) (model_of at c.event.new.self.engine) c.event_at-e.result.0 i.model
+    (c.event_at-e.ensures.event c.loop-alloc.given i.place ∙ ap (λ n. events_of c.args.schedule n c.loop-alloc.given) c.requires.slaves)
+    (ap (λ x. x.1) c.in-Ok.ensures.ok ∙ ap (λ w. (happens w (model_of at c.loop-alloc.pair.engine) c.event_at-e.result.0).1) i.world) refl in
     stopped_there course c.loop-alloc.given i.not_yet (g.O.Sink.told c.args.out.now) (g.O.Sink.told c.loop-alloc.out) i.told (c.loop-alloc.given + 1) c.loop-alloc.put refl i.put goes
     (g.O.Sink.told c.put_after.new.out) (g.O.Sink.faults c.args.out.now) (g.O.Sink.faults c.loop-alloc.out) (g.O.Sink.faults c.put_after.new.out) c.in-Err-put_after.answer i.faults
     (subst (λ (m : Model). Stops (g.O.Sink.told c.loop-alloc.out) (g.O.Sink.told c.put_after.new.out) (g.O.Sink.faults c.loop-alloc.out) (g.O.Sink.faults c.put_after.new.out) (drop c.loop-alloc.put m.committed.env.output) c.in-Err-put_after.answer) model c.in-Err-put_after.ensures.err)
@@ -133,15 +133,15 @@ loop-alloc-preserved g c =
     let course = its_course (start_of at e0) (image_of e0) (slaves_of e0) c.requires.image some c.args.schedule c.args.budget c.requires.least c.requires.running in
     let goes = goes_on c.args.budget (model_of at c.loop-alloc.pair.engine) (after (world_of at e0) (events_of c.args.schedule (slaves_of e0)) c.loop-alloc.given) c.has_come.result c.has_come.ensures c.loop-alloc-test.true i.model in
     let model : model_of at c.event.new.self.engine ≡ after (world_of at e0) (events_of c.args.schedule (slaves_of e0)) (c.loop-alloc.given + 1) =
-    next_after (world_of at e0) (events_of c.args.schedule (slaves_of e0)) c.loop-alloc.given (c.loop-alloc.given + 1) (model_of at c.loop-alloc.pair.engine) (model_of at c.event.new.self.engine) c.event_at-e.result i.model
-    (c.event_at-e.ensures c.loop-alloc.given i.place ∙ ap (λ n. events_of c.args.schedule n c.loop-alloc.given) c.requires.slaves)
-    (ap (λ x. x.1) c.in-Ok.ensures.ok ∙ ap (λ w. (happens w (model_of at c.loop-alloc.pair.engine) c.event_at-e.result).1) i.world) refl in
+    next_after (world_of at e0) (events_of c.args.schedule (slaves_of e0)) c.loop-alloc.given (c.loop-alloc.given + 1) (model_of at c.loop-alloc.pair.engine) (model_of at c.event.new.self.engine) c.event_at-e.result.0 i.model
+    (c.event_at-e.ensures.event c.loop-alloc.given i.place ∙ ap (λ n. events_of c.args.schedule n c.loop-alloc.given) c.requires.slaves)
+    (ap (λ x. x.1) c.in-Ok.ensures.ok ∙ ap (λ w. (happens w (model_of at c.loop-alloc.pair.engine) c.event_at-e.result.0).1) i.world) refl in
     record {
       world = same_world _ _ _ _ _ _ c.in-Ok.ensures.start c.in-Ok.ensures.image c.in-Ok.ensures.slaves ∙ i.world;
       model = model;
       not_yet = not_yet_too course c.loop-alloc.given i.not_yet (g.O.Sink.told c.args.out.now) (g.O.Sink.told c.loop-alloc.out) i.told (c.loop-alloc.given + 1) c.loop-alloc.put refl i.put goes;
-      place = c.behind-place.ensures.next c.loop-alloc.given i.place;
-      within = c.behind-place.ensures.within;
+      place = c.event_at-e.ensures.next c.loop-alloc.given i.place;
+      within = c.event_at-e.ensures.within;
       put = c.in-Ok-put_after.ensures.length ∙ ap (λ (m : Model). length m.committed.env.output) model;
       told = put_too course c.loop-alloc.given i.not_yet (g.O.Sink.told c.args.out.now) (g.O.Sink.told c.loop-alloc.out) i.told (c.loop-alloc.given + 1) c.loop-alloc.put refl i.put goes (g.O.Sink.told c.put_after.new.out)
           (subst (λ (m : Model). Gains (g.O.Sink.told c.loop-alloc.out) (g.O.Sink.told c.put_after.new.out) (drop c.loop-alloc.put m.committed.env.output)) model c.in-Ok-put_after.ensures.ok);
