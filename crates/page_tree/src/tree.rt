@@ -330,12 +330,6 @@ impl Memory for PageTree {
         self.put_blank::<Brand>(alloc, a, bytes, Blank::new(1))
     }
 
-    // As the trait has it, but compiled where it is called.
-    #[inline(always)]
-    fn put_word(&mut self, alloc: Global, a: u32, v: u32) -> Result<(), AllocError> {
-        self.put(alloc, a, &v.to_le_bytes())
-    }
-
     fn snapshot(&self, _alloc: Global) -> Result<Self, AllocError> {
         self.again()
     }
